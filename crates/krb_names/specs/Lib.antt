@@ -1,0 +1,13 @@
+pub mod Calendar
+pub mod Decimals
+pub mod Etypes
+pub mod Keys
+pub mod Pieces
+pub mod Principals
+pub mod Realms
+pub mod SidFields
+pub mod SidTexts
+pub mod SidValue
+pub mod Spns
+pub mod Times
+pub mod Utf16
