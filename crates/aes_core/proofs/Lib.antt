@@ -1,0 +1,10 @@
+pub mod Backward
+pub mod Expansion
+pub mod Inverse
+pub mod InverseBack
+pub mod Linear
+pub mod Rounds
+pub mod ScheduleWords
+pub mod StandardFacts
+pub mod TableRules
+pub mod Words

@@ -1,0 +1,14 @@
+pub mod BitLists
+pub mod ByteSums
+pub mod Copies
+pub mod CtsBack
+pub mod CtsInverse
+pub mod CtsSteps
+pub mod DerivedKeys
+pub mod Hashes
+pub mod KeyBlocks
+pub mod Opened
+pub mod Opening
+pub mod Parts
+pub mod Sums
+pub mod ZeroedTexts

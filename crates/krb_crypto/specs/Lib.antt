@@ -1,0 +1,10 @@
+pub mod BlockCipher
+pub mod BytesValue
+pub mod Checksums
+pub mod CiphertextStealing
+pub mod Derivation
+pub mod Encryption
+pub mod Folding
+pub mod KeyedHash
+pub mod Laws
+pub mod Passwords
