@@ -1,0 +1,16 @@
+pub mod Place
+pub mod Sizes
+pub mod Elements
+pub mod Integers
+pub mod BitStrings
+pub mod Moves
+pub mod Codec
+pub mod Forms
+pub mod Laws
+pub mod Steps
+pub mod SizeLaws
+pub mod ElementLaws
+pub mod IntegerLaws
+pub mod BitLaws
+pub mod CodecLaws
+pub mod FormLaws

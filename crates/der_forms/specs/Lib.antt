@@ -1,0 +1,13 @@
+pub mod Reads
+pub mod Fields
+pub mod Laws
+pub mod Lists
+pub mod FieldLaws
+pub mod ListLaws
+pub mod Values
+pub mod Names
+pub mod NameLaws
+pub mod Keys
+pub mod KeyLaws
+pub mod Times
+pub mod TimeLaws

@@ -1,0 +1,12 @@
+-- Realm (RFC 4120 5.2.2): a GeneralString that is one name text.
+use Rattle.std.specs.Prelude.{ℕ, List}
+use Rattle.der_core.specs.Codec.{Codec}
+use Rattle.der_core.specs.Forms.{text_such}
+use Rattle.krb_names.specs.Pieces.{is_name}
+
+-- a text that may stand in a name
+abbrev pub name_text : Codec (List ℕ)
+name_text = text_such is_name
+
+abbrev pub realm : Codec (List ℕ)
+realm = name_text

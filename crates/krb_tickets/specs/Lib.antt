@@ -1,0 +1,12 @@
+pub mod EncryptedData
+pub mod NameString
+pub mod NameStringLaws
+pub mod PrincipalName
+pub mod Ticket
+pub mod AuthItem
+pub mod HostAddress
+pub mod Transited
+pub mod TransitedLaws
+pub mod EncTicketPart
+pub mod Laws
+pub mod Told
