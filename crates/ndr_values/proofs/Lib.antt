@@ -1,0 +1,2 @@
+pub mod SidLaws
+pub mod TextLaws

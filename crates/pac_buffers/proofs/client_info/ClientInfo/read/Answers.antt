@@ -1,0 +1,11 @@
+use Rattle.std.proofs.Common.{arith}
+use Rattle.pac_buffers.specs.Client.{client}
+use Rattle.pac_buffers.proofs.Readings.{packed_is_found, packed_is_only}
+use Rattle.pac_buffers.proofs.InfoLaws.{client_lawful}
+use Rattle.pac_buffers.proofs.client_info.ClientInfo.read.Goals as goal
+
+pub returns-clause-found : goal.returns-clause-found
+returns-clause-found c = packed_is_found client c.args.bytes.now c.whole.result client_lawful (λ i. omega (arith, c.type_inv.bytes i)) c.whole.ensures
+
+pub returns-clause-only : goal.returns-clause-only
+returns-clause-only c = packed_is_only client c.args.bytes.now c.whole.result client_lawful c.whole.ensures

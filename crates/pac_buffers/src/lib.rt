@@ -1,0 +1,21 @@
+//! The buffers of a PAC (MS-PAC 2.3 to 2.9).
+#![tactic(auto)]
+
+mod client_info;
+mod delegation_info;
+mod info_buffer;
+mod list;
+mod refusal;
+mod requestor;
+mod signature_data;
+mod view;
+
+pub use client_info::ClientInfo;
+pub use delegation_info::DelegationInfo;
+pub use refusal::PacRefusal;
+pub use requestor::Requestor;
+pub use signature_data::SignatureData;
+pub use view::PacView;
+
+#[cfg(test)]
+mod tests;
