@@ -1,0 +1,5 @@
+pub mod Apart
+pub mod Bounds
+pub mod Distinctness
+pub mod Once
+pub mod Seen

@@ -1,0 +1,9 @@
+use Rattle.std.proofs.Common.{arith}
+use Rattle.dir_core.proofs.Bounds.{well_bounded}
+use Rattle.dir_core.proofs.directory.Directory.realm_count.Goals as goal
+
+pub overflow_cast-result : goal.overflow_cast-result
+overflow_cast-result c = let few = (well_bounded c.self.inside.realms c.self.invariant).few in omega arith
+
+pub returns-clause-few : goal.returns-clause-few
+returns-clause-few c = let few = (well_bounded c.self.inside.realms c.self.invariant).few in omega arith

@@ -1,0 +1,195 @@
+//! The directory, and looking things up in it.
+ghost use Rattle.std.specs.Prelude.{◌≡◌, ◌<◌, ◌≤◌, IfOk, IfSome, count_by, length, map, slice_get, sum_by, true};
+ghost use Rattle.std.specs.Option.{option_copied};
+ghost use Rattle.kdc_prelude.specs.Answers.{Answers};
+ghost use Rattle.kdc_prelude.specs.Distinct.{all_distinct};
+ghost use Rattle.kdc_prelude.specs.Texts.{same_text};
+ghost use Rattle.dir_core.specs.Lookups.{account_at, account_named, account_of, account_serving, has_spn, is_reached, next_hop, place_of, realm_named, sid_place, spn_place};
+ghost use Rattle.dir_core.specs.WellFormed.{directory_of, no_memory};
+
+use crate::lookups::{
+    has_trust_reaching, narrow, place_of_account, place_of_realm, place_of_sid, place_of_spn,
+    place_of_trust,
+};
+use crate::records::{Account, RealmRec};
+use crate::refusal::DirRefusal;
+use crate::well_formed::find_refusal;
+use krb_names::{Items, Principal, Sid, TryClone};
+use std::alloc::{AllocError, Global};
+use std::marker::Model;
+
+/// Realms with their accounts and trusts, which keep all forms and limits of a directory.
+#[derive(Debug, Drop)]
+pub struct Directory {
+    alloc: Global,
+    realms: Items<RealmRec>,
+}
+
+impl Model for Directory {
+    ghost use Rattle.std.specs.Prelude.{◌≡◌, true};
+    ghost use Rattle.dir_core.specs.DirectoryValue.{DirectoryValue};
+    ghost use Rattle.dir_core.specs.WellFormed.{is_well_formed};
+
+    ghost Value = { DirectoryValue };
+
+    ghost view = { λ d. record { realms = d.realms } };
+
+    ghost invariant = { λ d. is_well_formed d.realms ≡ true };
+}
+
+impl Directory {
+    /// The directory of these realms, which are dropped where they make none.
+    ///
+    /// # Errors
+    /// The first reason for which they make none, with its place: a member that breaks a condition or a limit; else
+    /// `Duplicate`; else `SameKey`; else `UnknownRef`. `NoMemory` at `Whole`.
+    pub fn new(alloc: Global, realms: Vec<RealmRec>) -> Result<Directory, DirRefusal>
+        ensures { Answers no_memory result (directory_of realms.items) }
+    {
+        match find_refusal(alloc, realms.as_slice())? {
+            None => Ok(Directory {
+                alloc,
+                realms: Items::from_vec(realms),
+            }),
+            Some(refusal) => Err(refusal),
+        }
+    }
+
+    /// How many realms there are.
+    pub fn realm_count(&self) -> u32
+        ensures value { result ≡ length self.now.realms }
+        ensures few { result ≤ 64 }
+    {
+        self.realms.len() as u32
+    }
+
+    /// The realm at an index.
+    pub fn realm(&self, i: u32) -> &RealmRec
+        requires { i < length self.now.realms }
+        ensures found { slice_get self.now.realms i ≡ Some result.now }
+        ensures accounts { length result.now.accounts ≤ 100000 }
+        ensures trusts { length result.now.trusts ≤ 32 }
+        ensures names { all_distinct same_text (map (λ account. account.name) result.now.accounts) ≡ true }
+    {
+        &self.realms.as_slice()[i as usize]
+    }
+
+    /// The index of the realm of this name.
+    pub fn realm_by_name(&self, name: &str) -> Option<u32>
+        ensures found { result ≡ realm_named self.now name.now }
+        ensures within { IfSome result (λ i. i < length self.now.realms) }
+        ensures only { count_by (λ realm. same_text realm.name name.now) self.now.realms ≤ 1 }
+    {
+        narrow(place_of_realm(self.realms.as_slice(), name))
+    }
+
+    /// The index of the account of this name in the realm at an index.
+    pub fn account_by_name(&self, realm: u32, name: &str) -> Option<u32>
+        requires { realm < length self.now.realms }
+        ensures found { result ≡ account_named self.now realm name.now }
+        ensures only { IfSome (slice_get self.now.realms realm) (λ realm. count_by (λ account. same_text account.name name.now) realm.accounts ≤ 1) }
+    {
+        narrow(place_of_account(self.realm(realm).accounts.as_slice(), name))
+    }
+
+    /// The account at an index in the realm at an index, if there is one.
+    pub fn account_at(&self, realm: u32, account: u32) -> Option<&Account>
+        requires { realm < length self.now.realms }
+        ensures { option_copied result ≡ account_at self.now realm account }
+    {
+        self.realm(realm).accounts.get(account as usize)
+    }
+
+    /// The index of the realm and, in it, the index of the account that has this service principal name.
+    pub fn account_by_spn(&self, spn: &str) -> Option<(u32, u32)>
+        ensures found { result ≡ spn_place self.now spn.now }
+        ensures within { IfSome result (λ place. place.0 < length self.now.realms) }
+        ensures only { sum_by (λ realm. count_by (has_spn spn.now) realm.accounts) self.now.realms ≤ 1 }
+    {
+        place_of_spn(self.realms.as_slice(), spn)
+    }
+
+    /// Where the account of this name stands, the index of its realm and its own there: a name of one part, which is
+    /// the account's name in its realm.
+    pub fn place_of(&self, name: &Principal) -> Option<(u32, u32)>
+        ensures found { result ≡ place_of self.now name.now }
+        ensures within { IfSome result (λ place. place.0 < length self.now.realms) }
+    {
+        match name.parts.as_slice() {
+            [part] => match self.realm_by_name(name.realm.as_str()) {
+                Some(realm) => match self.account_by_name(realm, part.as_str()) {
+                    Some(account) => Some((realm, account)),
+                    None => None,
+                },
+                None => None,
+            },
+            _ => None,
+        }
+    }
+
+    /// The account of this name.
+    pub fn account_of(&self, name: &Principal) -> Option<&Account>
+        ensures { option_copied result ≡ account_of self.now name.now }
+    {
+        match self.place_of(name) {
+            Some((realm, account)) => self.account_at(realm, account),
+            None => None,
+        }
+    }
+
+    /// The account of the realm of this name that has this service principal name.
+    pub fn account_serving(&self, realm: &str, spn: &str) -> Option<&Account>
+        ensures { option_copied result ≡ account_serving self.now realm.now spn.now }
+    {
+        match (self.realm_by_name(realm), self.account_by_spn(spn)) {
+            (Some(realm), Some((at, account))) => {
+                if at == realm {
+                    self.account_at(at, account)
+                } else {
+                    None
+                }
+            }
+            _ => None,
+        }
+    }
+
+    /// The index of the realm and, in it, the index of the account that has this SID: the realm's, followed by the
+    /// account's number.
+    pub fn account_by_sid(&self, sid: &Sid) -> Option<(u32, u32)>
+        ensures found { result ≡ sid_place self.now sid.now }
+        ensures within { IfSome result (λ place. place.0 < length self.now.realms) }
+    {
+        place_of_sid(self.realms.as_slice(), sid)
+    }
+
+    /// The index of the first trust of one realm that leads to another: whose partner is that realm, or whose reach
+    /// list has it.
+    pub fn next_hop(&self, from: u32, to: u32) -> Option<u32>
+        requires from { from < length self.now.realms }
+        requires to { to < length self.now.realms }
+        ensures { result ≡ next_hop self.now from to }
+    {
+        let name = self.realm(to).name.as_str();
+        narrow(place_of_trust(self.realm(from).trusts.as_slice(), name))
+    }
+
+    /// Whether the realm at one index has a trust with the realm at another that reaches the realm of this name.
+    pub fn reached(&self, at: u32, from: u32, name: &str) -> bool
+        requires at { at < length self.now.realms }
+        requires from { from < length self.now.realms }
+        ensures { result ≡ is_reached self.now at from name.now }
+    {
+        let partner = self.realm(from).name.as_str();
+        has_trust_reaching(self.realm(at).trusts.as_slice(), partner, name)
+    }
+
+    /// A copy.
+    pub fn try_clone(&self) -> Result<Directory, AllocError>
+        ensures value { IfOk result (λ copied. copied ≡ self.now) }
+    {
+        Ok(Directory {
+            alloc: self.alloc,
+            realms: self.realms.try_clone(self.alloc)?,
+        })
+    }
+}

@@ -1,0 +1,9 @@
+pub mod AccountText
+pub mod DirectoryText
+pub mod Gives
+pub mod KeyText
+pub mod Lists
+pub mod Members
+pub mod RealmText
+pub mod TrustText
+pub mod Values
