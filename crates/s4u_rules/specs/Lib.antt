@@ -1,0 +1,3 @@
+pub mod AskClassic
+pub mod AskSelf
+pub mod Outcomes
