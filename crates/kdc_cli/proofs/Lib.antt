@@ -1,0 +1,3 @@
+pub mod LongTexts
+pub mod Readable
+pub mod Silence

@@ -1,0 +1,5 @@
+pub mod Loading
+pub mod Questions
+pub mod Refusals
+pub mod Runs
+pub mod Words

@@ -1,0 +1,203 @@
+//! Runs of the program over devices in memory.
+use crate::run::run_words;
+use kb_base::{MemSink, MemSource, SteadySink, SteadySource};
+use krb_names::{Items, Numbers};
+use std::alloc::AllocError;
+use std::process::Abort;
+use std::test::Fail;
+
+/// A realm with a front end, a database and a user.
+const REALM: &str =
+    r#"{"realms":[{"name":"R","sid":"S-1-5-21-1","krbtgt":{"etype":17,"kvno":1,"key":"11111111111111111111111111111111"},
+"accounts":[{"name":"ana","number":1001,"key":{"etype":17,"kvno":1,"key":"21212121212121212121212121212121"}},
+{"name":"web","number":1002,"key":{"etype":17,"kvno":1,"key":"31313131313131313131313131313131"},"spns":["http/web/x"],"trusted_to_auth":true,"classic":["db/main"]},
+{"name":"db","number":1003,"key":{"etype":17,"kvno":1,"key":"ABABABABABABABABABABABABABABABAB"},"spns":["db/main"]}]}]}"#;
+
+/// The status of a run over devices that never fail, and what it printed.
+fn run(
+    rt: &(impl Abort + AllocGlobal),
+    words: &[&str],
+    dir: &str,
+    input: &[u8],
+) -> Result<(u8, Vec<u8>), AllocError> {
+    let mut given = Vec::new(rt.alloc());
+    for word in words {
+        given.push(String::from_str(rt.alloc(), word)?)?;
+    }
+    let mut dir = SteadySource::new(rt.alloc(), Items::copy(rt.alloc(), dir.as_bytes())?);
+    let mut input = SteadySource::new(rt.alloc(), Items::copy(rt.alloc(), input)?);
+    let mut out = SteadySink::new(rt.alloc());
+    let status = run_words(rt.alloc(), given.as_slice(), &mut dir, &mut input, &mut out);
+    Ok((status, Vec::from_slice(rt.alloc(), out.as_slice())?))
+}
+
+#[test]
+fn lines_are_questions_or_bad(rt: HostRuntime) -> Result<(), Fail> {
+    let rows = [
+        ("", ""),
+        ("\n", "bad question\n"),
+        ("self web@R ana@R", "allow forwardable\n"),
+        (
+            "self web@R ana@R\nself ana@R web@R",
+            "allow forwardable\ndeny S4\n",
+        ),
+        ("self web@R ana@R\r\n", "bad question\n"),
+        ("self web@R  ana@R", "bad question\n"),
+        ("self web@R ana@R ", "bad question\n"),
+        ("self web@R ana@R@R", "bad question\n"),
+        ("self web@R an\u{a0}a@R", "deny S6\n"),
+        ("self web@R an\u{85}a@R", "bad question\n"),
+        ("self web@R ana@S", "deny S5\n"),
+        ("classic web@R ana@R db/main", "allow\n"),
+        ("classic web@R ana@R http/web/x", "deny P11\n"),
+        ("classic web@R ana@R http/web", "deny G19\n"),
+        ("classic web@R ana@R krbtgt/X", "deny G19\n"),
+        ("classic web@R ana@R db", "bad question\n"),
+        ("Self web@R ana@R", "bad question\n"),
+    ];
+    for (input, printed) in rows {
+        let (status, text) = run(&rt, &["ask", "dir.json"], REALM, input.as_bytes())?;
+        assert_eq!(rt; status, 0, "{input}");
+        assert_eq!(rt; text.as_slice(), printed.as_bytes(), "{input}");
+    }
+    Ok(())
+}
+
+#[test]
+fn a_name_of_256_bytes_is_no_name(rt: HostRuntime) -> Result<(), Fail> {
+    for (length, printed) in [(255, "deny S6\n"), (256, "bad question\n")] {
+        let mut line = String::from_str(rt.alloc(), "self web@R ")?;
+        line.push_str("a".repeat(rt.alloc(), length)?.as_str())?;
+        line.push_str("@R")?;
+        let (_, text) = run(&rt, &["ask", "dir.json"], REALM, line.as_bytes())?;
+        assert_eq!(rt; text.as_slice(), printed.as_bytes(), "{length}");
+    }
+    Ok(())
+}
+
+#[test]
+fn texts_are_directories_or_are_refused(rt: HostRuntime) -> Result<(), Fail> {
+    let key = r#"{"etype":17,"kvno":1,"key":"11111111111111111111111111111111"}"#;
+    let rows = [
+        (
+            r#"{"realms":[{"name":"R","name":"S","sid":"S-1-5-21-1","krbtgt":KEY}]}"#,
+            "",
+        ),
+        (
+            r#"{"realms":[{"name":"R","sid":"S-1-5-21-1","krbtgt":KEY,"trusts":[]}]}"#,
+            "",
+        ),
+        (r#"{"realms":[]}"#, "MissingField at whole"),
+        (r#"{"realms":"#, "NotJson at whole"),
+        (r#"{"realms":[],"x":1e400}"#, "NotJson at whole"),
+        (r#"[]"#, "BadField at whole"),
+        (r#"{"realms":[1]}"#, "BadField at realm 0"),
+        (
+            r#"{"realms":[{"sid":"S-1-5-21-1","krbtgt":KEY}]}"#,
+            "MissingField at realm 0",
+        ),
+        (
+            r#"{"realms":[{"name":"R","sid":"S-1-5-21-1","krbtgt":{"etype":18.0,"kvno":1,"key":""}}]}"#,
+            "BadField at realm 0",
+        ),
+        (
+            r#"{"realms":[{"name":"R","sid":"S-1-5-21-1","krbtgt":KEY,"more":1}]}"#,
+            "BadField at realm 0",
+        ),
+        (
+            r#"{"realms":[{"name":"R","sid":"S-1-5-21-1","krbtgt":KEY,"accounts":[{"name":"a","number":0,"key":KEY}]}]}"#,
+            "BadField at realm 0 account 1",
+        ),
+        (
+            r#"{"realms":[{"name":"R","sid":"S-1-5-21-1","krbtgt":KEY,"accounts":[{"name":"a","number":1,"key":KEY}]}]}"#,
+            "SameKey at realm 0 account 1",
+        ),
+    ];
+    for (shape, refusal) in rows {
+        let text = shape.replace(rt.alloc(), "KEY", key)?;
+        let (status, printed) = run(&rt, &["ask", "dir.json"], text.as_str(), b"")?;
+        let mut wanted = String::new(rt.alloc());
+        if !refusal.is_empty() {
+            wanted.push_str("directory refused: ")?;
+            wanted.push_str(refusal)?;
+            wanted.push_str("\n")?;
+        }
+        assert_eq!(rt; printed.as_slice(), wanted.as_bytes(), "{shape}");
+        assert_eq!(rt; status, if refusal.is_empty() { 0 } else { 4 }, "{shape}");
+    }
+    Ok(())
+}
+
+#[test]
+fn a_text_nests_at_most_127_deep(rt: HostRuntime) -> Result<(), Fail> {
+    for (depth, cause) in [(126, "BadField"), (127, "NotJson")] {
+        let mut text = String::from_str(rt.alloc(), r#"{"realms":1,"x":"#)?;
+        text.push_str("[".repeat(rt.alloc(), depth)?.as_str())?;
+        text.push_str("]".repeat(rt.alloc(), depth)?.as_str())?;
+        text.push_str("}")?;
+        let (status, printed) = run(&rt, &["ask", "dir.json"], text.as_str(), b"")?;
+        let mut wanted = String::from_str(rt.alloc(), "directory refused: ")?;
+        wanted.push_str(cause)?;
+        wanted.push_str(" at whole\n")?;
+        assert_eq!(rt; status, 4, "{depth}");
+        assert_eq!(rt; printed.as_slice(), wanted.as_bytes(), "{depth}");
+    }
+    Ok(())
+}
+
+#[test]
+fn words_are_a_command_or_bad(rt: HostRuntime) -> Result<(), Fail> {
+    let rows = [
+        ["ask"].as_slice(),
+        ["ask", "a", "b"].as_slice(),
+        ["Ask", "a"].as_slice(),
+    ];
+    for words in rows {
+        let (status, text) = run(&rt, words, REALM, b"")?;
+        assert_eq!(rt; status, 2);
+        assert_eq!(rt; text.as_slice(), b"bad words\n".as_slice());
+    }
+    Ok(())
+}
+
+#[test]
+fn an_input_above_its_limit_is_not_answered(rt: HostRuntime) -> Result<(), Fail> {
+    let input = "\n".repeat(rt.alloc(), 1_048_577)?;
+    let (status, text) = run(&rt, &["ask", "dir.json"], REALM, input.as_bytes())?;
+    assert_eq!(rt; status, 14);
+    assert_eq!(rt; text.as_slice(), b"input too long\n".as_slice());
+    Ok(())
+}
+
+/// The status of a run whose devices fail at these calls, and what it printed.
+fn run_failing(
+    rt: &(impl Abort + AllocGlobal),
+    dir_fails: &[u32],
+    input_fails: &[u32],
+    out_fails: &[u32],
+) -> Result<(u8, Vec<u8>), AllocError> {
+    let mut words = Vec::new(rt.alloc());
+    words.push(String::from_str(rt.alloc(), "ask")?)?;
+    words.push(String::from_str(rt.alloc(), "dir.json")?)?;
+    let dir_fails: Numbers = Items::copy(rt.alloc(), dir_fails)?;
+    let input_fails: Numbers = Items::copy(rt.alloc(), input_fails)?;
+    let out_fails: Numbers = Items::copy(rt.alloc(), out_fails)?;
+    let text = Items::copy(rt.alloc(), REALM.as_bytes())?;
+    let mut dir = MemSource::new(rt.alloc(), text, dir_fails);
+    let lines = Items::copy(rt.alloc(), b"self web@R ana@R\n")?;
+    let mut input = MemSource::new(rt.alloc(), lines, input_fails);
+    let mut out = MemSink::new(rt.alloc(), out_fails);
+    let status = run_words(rt.alloc(), words.as_slice(), &mut dir, &mut input, &mut out);
+    Ok((status, Vec::from_slice(rt.alloc(), out.as_slice())?))
+}
+
+#[test]
+fn a_device_that_fails_is_told_and_nothing_is_printed(rt: HostRuntime) -> Result<(), Fail> {
+    assert_eq!(rt; run_failing(&rt, &[1], &[], &[])?.0, 5);
+    assert_eq!(rt; run_failing(&rt, &[], &[2], &[])?.0, 5);
+    assert_eq!(rt; run_failing(&rt, &[], &[], &[1])?.0, 6);
+    let (status, text) = run_failing(&rt, &[9], &[9], &[9])?;
+    assert_eq!(rt; status, 0);
+    assert_eq!(rt; text.as_slice(), b"allow forwardable\n".as_slice());
+    Ok(())
+}
