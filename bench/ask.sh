@@ -18,11 +18,15 @@ questions() { # accounts, lines: spread over the accounts
     for ((i = 0; i < $2; i++)); do printf 'self u%d@R u%d@R\n' $((i * 7919 % $1)) $((i * 104729 % $1)); done
 }
 count() { valgrind --tool=callgrind --callgrind-out-file=/dev/null "$program" ask "$1" < "$2" 2>&1 >/dev/null | sed -n 's/.*Collected : //p'; }
+nanoseconds() { local start; start=$(date +%s%N); "$program" ask "$1" < "$2" >/dev/null; echo $(($(date +%s%N) - start)); }
 for accounts in 10 10000; do
     directory $accounts > "$folder/dir.json"
     questions $accounts 200 > "$folder/few"
     questions $accounts 400 > "$folder/many"
     few=$(count "$folder/dir.json" "$folder/few")
     many=$(count "$folder/dir.json" "$folder/many")
-    echo "$accounts accounts: $(((many - few) / 200)) instructions a question, reading the directory $((few - (many - few)))"
+    questions $accounts 40000 > "$folder/all"
+    all=$(nanoseconds "$folder/dir.json" "$folder/all")
+    none=$(nanoseconds "$folder/dir.json" /dev/null)
+    echo "$accounts accounts: $(((many - few) / 200)) instructions a question, $((40000 * 1000000000 / (all - none))) questions a second, $((few - (many - few))) instructions to read the directory"
 done
