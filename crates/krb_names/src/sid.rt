@@ -52,7 +52,8 @@ impl Sid {
 
     /// Its identifier authority.
     pub fn authority(&self) -> u64
-        ensures { result ≡ self.now.authority }
+        ensures value { result ≡ self.now.authority }
+        ensures low { self.now.authority < 2 ^ 48 }
     {
         self.authority
     }
@@ -71,7 +72,9 @@ impl Sid {
 
     /// Its sub-authorities, 1 to 15.
     pub fn numbers(&self) -> &[u32]
-        ensures { result.now ≡ self.now.numbers }
+        ensures value { result.now ≡ self.now.numbers }
+        ensures some { 1 ≤ length self.now.numbers }
+        ensures few { length self.now.numbers ≤ 15 }
     {
         &self.subs[..self.count as usize]
     }
