@@ -1,3 +1,5 @@
 pub mod Joined
+pub mod Pacs
+pub mod PacSizes
 pub mod Realms
 pub mod Texts

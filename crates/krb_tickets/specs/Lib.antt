@@ -10,3 +10,5 @@ pub mod TransitedLaws
 pub mod EncTicketPart
 pub mod Laws
 pub mod Told
+pub mod Pac
+pub mod Found

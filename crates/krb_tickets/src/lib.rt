@@ -8,6 +8,7 @@ mod fault;
 mod host_address;
 mod message;
 mod name_string;
+mod pac;
 mod principal_name;
 mod ticket;
 mod transited;
@@ -18,6 +19,7 @@ pub use encrypted_data::EncryptedData;
 pub use fault::{Malformed, TicketFault};
 pub use host_address::HostAddress;
 pub use message::read_message;
+pub use pac::{pac_of, part_without_pac};
 pub use principal_name::{PrincipalName, put_name, put_optional_name};
 pub use ticket::{Ticket, read_ticket, ticket_keeps_laws, write_ticket};
 

@@ -63,7 +63,8 @@ pub fn read_sid(from: &mut NdrReader, most: u8) -> Result<Sid, NdrRefusal>
 }
 
 fn put_numbers(to: &mut NdrWriter, numbers: &[u32]) -> Result<(), AllocError>
-    ensures { OnOk result (to.new ≡ (repeated (length numbers.now) (number w32)).written to.old numbers.now) }
+    ensures ok { OnOk result (to.new ≡ (repeated (length numbers.now) (number w32)).written to.old numbers.now) }
+    ensures fits { (repeated (length numbers.now) (number w32)).Fits numbers.now }
 {
     for number in numbers {
         to.u32(*number)?;
@@ -72,7 +73,8 @@ fn put_numbers(to: &mut NdrWriter, numbers: &[u32]) -> Result<(), AllocError>
 }
 
 fn put_body(to: &mut NdrWriter, sid: &Sid) -> Result<(), AllocError>
-    ensures { OnOk result (to.new ≡ (sid_body (length sid.now.numbers)).written to.old sid.now) }
+    ensures ok { OnOk result (to.new ≡ (sid_body (length sid.now.numbers)).written to.old sid.now) }
+    ensures fits { OnOk result ((sid_body (length sid.now.numbers)).Fits sid.now) }
 {
     let bytes = sid.authority().to_be_bytes();
     to.raw(&bytes[2..])?;
@@ -81,8 +83,8 @@ fn put_body(to: &mut NdrWriter, sid: &Sid) -> Result<(), AllocError>
 
 /// Writes a packed SID.
 pub fn put_packed_sid(to: &mut NdrWriter, sid: &Sid) -> Result<(), AllocError>
-    requires few { length sid.now.numbers ≤ 15 }
     ensures ok { OnOk result (to.new ≡ packed_sid.written to.old sid.now) }
+    ensures fits { OnOk result (packed_sid.Fits sid.now) }
 {
     to.u8(1)?;
     to.u8(sid.numbers().len() as u8)?;
@@ -91,7 +93,6 @@ pub fn put_packed_sid(to: &mut NdrWriter, sid: &Sid) -> Result<(), AllocError>
 
 /// Writes a SID behind the count of its array.
 pub fn put_sid(to: &mut NdrWriter, sid: &Sid) -> Result<(), AllocError>
-    requires few { length sid.now.numbers ≤ 15 }
     ensures ok { OnOk result (to.new ≡ (rpc_sid 15).written to.old sid.now) }
 {
     let count = sid.numbers().len();

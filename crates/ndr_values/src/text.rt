@@ -67,6 +67,7 @@ pub fn put_head(alloc: Global, to: &mut NdrWriter, text: &str) -> Result<(), All
 pub fn put_text(alloc: Global, to: &mut NdrWriter, text: &str) -> Result<(), AllocError>
     requires few { length (utf16le_text text.now) ≤ 65534 }
     ensures ok { OnOk result (to.new ≡ (text_of (head_of text.now)).written to.old text.now) }
+    ensures fits { OnOk result ((text_of (head_of text.now)).Fits text.now) }
 {
     let octets = to_utf16le(alloc, text)?;
     if octets.len() == 0 {

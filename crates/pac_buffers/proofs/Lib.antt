@@ -2,3 +2,11 @@ pub mod Lists
 pub mod Readings
 pub mod InfoLaws
 pub mod Loops
+pub mod Sizes
+pub mod InfoFits
+pub mod Entries
+pub mod Faults
+pub mod Contents
+pub mod Sums
+pub mod Drafts
+pub mod Built

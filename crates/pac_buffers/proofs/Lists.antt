@@ -20,11 +20,11 @@ first_of_chunks n (suc k) (suc m) xs le = ap (λ r. take n xs ∷ r) (first_of_c
 some_is : (x y : InfoBuffer) → Some x ≡ Some y → x ≡ y
 some_is x y e = cc
 
-not_first : (a b : Bool) → (a || b) ≡ false → a ≡ false
+pub not_first : (a b : Bool) → (a || b) ≡ false → a ≡ false
 not_first true b e = absurd cc
 not_first false b e = refl
 
-not_second : (a b : Bool) → (a || b) ≡ false → b ≡ false
+pub not_second : (a b : Bool) → (a || b) ≡ false → b ≡ false
 not_second true b e = absurd cc
 not_second false b e = e
 

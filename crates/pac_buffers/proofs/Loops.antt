@@ -36,3 +36,9 @@ head_puts_on texts i t old lt is =
     let k : length texts - i ≡ suc (length texts - (i + 1)) = omega arith in
     let rest : drop i texts ≡ t ∷ drop (i + 1) texts = drop_more texts i t lt ∙ ap (λ (g : List ℕ). g ∷ drop (i + 1) texts) (sym is) in
     rw (k, rest) refl
+
+pub text_puts_on : (texts : List (List ℕ)) (i : ℕ) (t : List ℕ) (old : Written) → i < length texts → t ≡ get_or texts i t
+    → put_each text_of (map head_of (drop i texts)) old (drop i texts) ≡ put_each text_of (map head_of (drop (i + 1) texts)) ((text_of (head_of t)).written old t) (drop (i + 1) texts)
+text_puts_on texts i t old lt is =
+    let rest : drop i texts ≡ t ∷ drop (i + 1) texts = drop_more texts i t lt ∙ ap (λ (g : List ℕ). g ∷ drop (i + 1) texts) (sym is) in
+    rw rest refl

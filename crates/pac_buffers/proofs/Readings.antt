@@ -43,7 +43,7 @@ front_found {X} c bytes x lawful fits e =
     let f = lawful.found (start_of bytes) a.0.1 a.0.0 fits a.1 in
     subst (λ (y : X). BeginsWith c bytes y) (ok_is a.0.0 x a.2) (record { front = f.front; rest = a.0.1.bytes; whole = f.passes.bytes; is_ndr = f.is_ndr })
 
-front_only : {X : Type 0} (c : Layout X) (bytes : List ℕ) (x : X) → IsLayout c → BeginsWith c bytes x → front_of c bytes ≡ Ok x
+pub front_only : {X : Type 0} (c : Layout X) (bytes : List ℕ) (x : X) → IsLayout c → BeginsWith c bytes x → front_of c bytes ≡ Ok x
 front_only c bytes x lawful d =
     let one = lawful.only 0 0 d.front d.rest x d.is_ndr in
     ap (front_of c) d.whole ∙ rw one refl

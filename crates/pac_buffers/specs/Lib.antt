@@ -5,3 +5,5 @@ pub mod Signature
 pub mod Requestor
 pub mod Delegation
 pub mod Client
+pub mod Buffers
+pub mod Drafts

@@ -55,6 +55,9 @@ impl ClientInfo {
     pub fn write(&self, alloc: Global) -> Result<Bytes, AllocError>
         requires few { length (utf16le_text self.now.name) ≤ 65534 }
         ensures ok { IfOk result (λ bytes. bytes ≡ packed_spelling client self.now) }
+        // What is written is read again.
+        ensures exact { IfOk result (λ bytes. packed client bytes ≡ Ok self.now) }
+        ensures short { IfOk result (λ bytes. length bytes < 2 ^ 30) }
     {
         let octets = to_utf16le(alloc, self.name.as_str())?;
         let mut to = NdrWriter::packed(alloc);

@@ -108,7 +108,8 @@ fn put_heads(alloc: Global, to: &mut NdrWriter, texts: &[Text]) -> Result<(), Al
 
 fn put_texts(alloc: Global, to: &mut NdrWriter, texts: &[Text]) -> Result<(), AllocError>
     requires few { All (λ t. length (utf16le_text t) ≤ 65534) texts.now }
-    ensures { OnOk result (to.new ≡ (each text_of (map head_of texts.now)).written to.old texts.now) }
+    ensures ok { OnOk result (to.new ≡ (each text_of (map head_of texts.now)).written to.old texts.now) }
+    ensures fits { OnOk result (All (λ t. (text_of (head_of t)).Fits t) texts.now) }
 {
     for text in texts {
         put_text(alloc, to, text.as_str())?;
@@ -130,7 +131,8 @@ fn put_fixed(alloc: Global, to: &mut NdrWriter, info: &DelegationInfo) -> Result
 fn put_services(alloc: Global, to: &mut NdrWriter, texts: &[Text]) -> Result<(), AllocError>
     requires few { length texts.now ≤ 32 }
     requires short { All (λ t. length (utf16le_text t) ≤ 65534) texts.now }
-    ensures { OnOk result (to.new ≡ (pointed (not (nat_eq (length texts.now) 0)) (listed (length texts.now)) []).written to.old texts.now) }
+    ensures ok { OnOk result (to.new ≡ (pointed (not (nat_eq (length texts.now) 0)) (listed (length texts.now)) []).written to.old texts.now) }
+    ensures fits { OnOk result (All (λ t. (text_of (head_of t)).Fits t) texts.now) }
 {
     if texts.is_empty() {
         return Ok(());
@@ -144,7 +146,8 @@ fn put_info(alloc: Global, to: &mut NdrWriter, info: &DelegationInfo) -> Result<
     requires target { length (utf16le_text info.now.target) ≤ 65534 }
     requires few { length info.now.services ≤ 32 }
     requires short { All (λ t. length (utf16le_text t) ≤ 65534) info.now.services }
-    ensures { OnOk result (to.new ≡ delegation.written to.old info.now) }
+    ensures ok { OnOk result (to.new ≡ delegation.written to.old info.now) }
+    ensures fits { OnOk result ((text_of (head_of info.now.target)).Fits info.now.target × All (λ t. (text_of (head_of t)).Fits t) info.now.services) }
 {
     put_fixed(alloc, to, info)?;
     put_text(alloc, to, info.target.as_str())?;
@@ -171,8 +174,10 @@ impl DelegationInfo {
         requires target { length (utf16le_text self.now.target) ≤ 65534 }
         requires few { length self.now.services ≤ 32 }
         requires texts { All (λ t. length (utf16le_text t) ≤ 65534) self.now.services }
-        requires short { length (spelling delegation self.now) < 2 ^ 31 }
         ensures ok { IfOk result (λ bytes. bytes ≡ spelling delegation self.now) }
+        // What is written is read again.
+        ensures exact { IfOk result (λ bytes. object delegation bytes ≡ Ok self.now) }
+        ensures short { IfOk result (λ bytes. length bytes < 2 ^ 30) }
     {
         let mut to = NdrWriter::new(alloc)?;
         put_info(alloc, &mut to, self)?;

@@ -2,8 +2,11 @@
 #![tactic(auto)]
 
 mod client_info;
+mod container;
 mod delegation_info;
+mod draft;
 mod info_buffer;
+mod laws;
 mod list;
 mod refusal;
 mod requestor;
@@ -11,7 +14,9 @@ mod signature_data;
 mod view;
 
 pub use client_info::ClientInfo;
+pub use container::Pac;
 pub use delegation_info::DelegationInfo;
+pub use laws::pac_keeps_laws;
 pub use refusal::PacRefusal;
 pub use requestor::Requestor;
 pub use signature_data::SignatureData;

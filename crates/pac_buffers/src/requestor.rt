@@ -43,8 +43,9 @@ impl Requestor {
 
     /// Its bytes.
     pub fn write(&self, alloc: Global) -> Result<Bytes, AllocError>
-        requires few { length self.now.sid.numbers ≤ 15 }
         ensures ok { IfOk result (λ bytes. bytes ≡ packed_spelling requestor self.now) }
+        // What is written is read again.
+        ensures exact { IfOk result (λ bytes. packed requestor bytes ≡ Ok self.now) }
     {
         let mut to = NdrWriter::packed(alloc);
         put_packed_sid(&mut to, &self.sid)?;

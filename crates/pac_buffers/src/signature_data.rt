@@ -50,6 +50,8 @@ impl SignatureData {
     pub fn write(&self, alloc: Global) -> Result<Bytes, AllocError>
         requires kind { (self.now.sum_type ≡ pos 15) ⊎ (self.now.sum_type ≡ pos 16) }
         ensures ok { IfOk result (λ bytes. bytes ≡ packed_spelling signature self.now) }
+        // What is written is read again.
+        ensures exact { IfOk result (λ bytes. front_of signature bytes ≡ Ok self.now) }
     {
         let mut to = NdrWriter::packed(alloc);
         to.u32(self.sum_type as u32)?;

@@ -1,0 +1,5 @@
+pub mod Loops
+pub mod LogonLaws
+pub mod Readings
+pub mod Sizes
+pub mod Fitting

@@ -1,0 +1,4 @@
+pub mod Texts
+pub mod Covered
+pub mod Signatures
+pub mod Verifies

@@ -1,0 +1,4 @@
+pub mod Sums
+pub mod Signed
+pub mod Verified
+pub mod Laws

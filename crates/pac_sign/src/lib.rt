@@ -1,0 +1,16 @@
+//! The signatures of a PAC (MS-PAC 2.8).
+#![tactic(auto)]
+
+mod fault;
+mod laws;
+mod signing;
+mod value;
+mod verifying;
+
+pub use fault::SignFault;
+pub use laws::signatures_keep_laws;
+pub use signing::sign;
+pub use verifying::verify;
+
+#[cfg(test)]
+mod tests;
