@@ -1,26 +1,8 @@
 #!/bin/sh
-# Instructions of the ciphers, counted by callgrind: the difference of two runs of kdc_bench, divided by
-# the difference of their counts. Needs valgrind, and the program as `rt run` builds it.
+# Instructions of the ciphers.
 #   bench/ciphers.sh [PROGRAM]
 set -eu
-here=$(cd "$(dirname "$0")/.." && pwd)
-program=${1:-$here/crates/kdc_bench/out/kdc_bench}
-work=$(mktemp -d)
-trap 'rm -rf "$work"' EXIT
-
-# instructions KERNEL ETYPE COUNT: of a whole run
-instructions() {
-    echo "$1 $2 $3" >"$work/in"
-    valgrind --tool=callgrind --callgrind-out-file="$work/out" "$program" <"$work/in" >/dev/null 2>"$work/log"
-    sed -n 's/^summary: \([0-9]*\).*/\1/p; s/^totals: \([0-9]*\).*/\1/p' "$work/out" | head -n 1
-}
-
-# each KERNEL ETYPE COUNT: of one turn
-each() {
-    one=$(instructions "$1" "$2" "$3")
-    two=$(instructions "$1" "$2" $((2 * $3)))
-    echo $(((two - one) / $3))
-}
+. "$(dirname "$0")/count.sh"
 
 for etype in 17 18; do
     block=$(each aes-encrypt $etype 2000)

@@ -1,5 +1,4 @@
-pub mod Apart
-pub mod Bounds
-pub mod Distinctness
+pub mod EditedBounds
 pub mod Once
-pub mod Seen
+pub mod SidApart
+pub mod SidOnce

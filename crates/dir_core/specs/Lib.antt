@@ -1,10 +1,5 @@
-pub mod Clashes
-pub mod DirectoryValue
-pub mod Forms
+pub mod Changed
+pub mod Edits
 pub mod Lookups
-pub mod Marks
-pub mod Members
-pub mod Repeats
 pub mod RuleCodes
 pub mod RuleNames
-pub mod WellFormed

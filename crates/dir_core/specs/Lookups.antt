@@ -4,10 +4,10 @@ use Rattle.std.specs.List.{list_any}
 use Rattle.kdc_prelude.specs.Texts.{same_text, is_one_of}
 use Rattle.krb_names.specs.declared.principal.Principal.{Principal}
 use Rattle.krb_names.specs.SidValue.{SidValue, followed_by, same_sid}
-use Rattle.dir_core.specs.declared.records.RealmRec.{RealmRec}
-use Rattle.dir_core.specs.declared.records.Trust.{Trust}
-use Rattle.dir_core.specs.declared.records.Account.{Account}
-use Rattle.dir_core.specs.DirectoryValue.{DirectoryValue}
+use Rattle.dir_records.specs.declared.records.RealmRec.{RealmRec}
+use Rattle.dir_records.specs.declared.records.Trust.{Trust}
+use Rattle.dir_records.specs.declared.records.Account.{Account}
+use Rattle.dir_records.specs.DirectoryValue.{DirectoryValue}
 
 -- the index of the realm of this name
 abbrev pub realm_named : DirectoryValue → List ℕ → Option ℕ

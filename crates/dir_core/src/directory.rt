@@ -1,40 +1,48 @@
 //! The directory, and looking things up in it.
-ghost use Rattle.std.specs.Prelude.{◌≡◌, ◌<◌, ◌≤◌, IfOk, IfSome, count_by, length, map, slice_get, sum_by, true};
+ghost use Rattle.std.specs.Prelude.{◌≡◌, ◌≢◌, ◌<◌, ◌≤◌, ◌^◌, All, IfErr, IfOk, IfSome, OnErr, OnOk, count_by, length, map, slice_get, sum_by, true};
 ghost use Rattle.std.specs.Option.{option_copied};
 ghost use Rattle.kdc_prelude.specs.Answers.{Answers};
 ghost use Rattle.kdc_prelude.specs.Distinct.{all_distinct};
 ghost use Rattle.kdc_prelude.specs.Texts.{same_text};
-ghost use Rattle.dir_core.specs.Lookups.{account_at, account_named, account_of, account_serving, has_spn, is_reached, next_hop, place_of, realm_named, sid_place, spn_place};
-ghost use Rattle.dir_core.specs.WellFormed.{directory_of, no_memory};
+ghost use Rattle.kdc_prelude.specs.Verdicts.{first_failing};
+ghost use Rattle.dir_core.specs.Changed.{changed, own_rows};
+ghost use Rattle.dir_core.specs.Edits.{changed_account, changed_trust, edited};
+ghost use Rattle.dir_core.specs.Lookups.{account_at, account_named, account_of, account_serving, has_sid, has_spn, is_reached, next_hop, place_of, realm_named, sid_place, spn_place};
+ghost use Rattle.dir_records.specs.WellFormed.{directory_of, no_memory, is_well_formed};
 
+use crate::allowed::{find_trust, is_account_found, is_trust_found};
 use crate::lookups::{
     has_trust_reaching, narrow, place_of_account, place_of_realm, place_of_sid, place_of_spn,
     place_of_trust,
 };
-use crate::records::{Account, RealmRec};
-use crate::refusal::DirRefusal;
-use crate::well_formed::find_refusal;
+use crate::realm_edits::realms_after;
+use crate::taken::{spend_key, spend_number};
+use dir_records::{
+    Account, Change, Contents, DirCause, DirRefusal, RealmRec, Trust, find_change_cause,
+    find_refusal,
+};
 use krb_names::{Items, Principal, Sid, TryClone};
 use std::alloc::{AllocError, Global};
 use std::marker::Model;
 
-/// Realms with their accounts and trusts, which keep all forms and limits of a directory.
+/// Realms with their accounts and trusts, and the keys and numbers that are spent, which keep all forms and limits of a
+/// directory.
 #[derive(Debug, Drop)]
 pub struct Directory {
     alloc: Global,
-    realms: Items<RealmRec>,
+    contents: Contents,
 }
 
 impl Model for Directory {
     ghost use Rattle.std.specs.Prelude.{◌≡◌, true};
-    ghost use Rattle.dir_core.specs.DirectoryValue.{DirectoryValue};
-    ghost use Rattle.dir_core.specs.WellFormed.{is_well_formed};
+    ghost use Rattle.dir_records.specs.DirectoryValue.{DirectoryValue};
+    ghost use Rattle.dir_records.specs.WellFormed.{is_well_formed};
 
     ghost Value = { DirectoryValue };
 
-    ghost view = { λ d. record { realms = d.realms } };
+    ghost view = { λ d. d.contents };
 
-    ghost invariant = { λ d. is_well_formed d.realms ≡ true };
+    ghost invariant = { λ d. is_well_formed d.contents ≡ true };
 }
 
 impl Directory {
@@ -46,11 +54,13 @@ impl Directory {
     pub fn new(alloc: Global, realms: Vec<RealmRec>) -> Result<Directory, DirRefusal>
         ensures { Answers no_memory result (directory_of realms.items) }
     {
-        match find_refusal(alloc, realms.as_slice())? {
-            None => Ok(Directory {
-                alloc,
-                realms: Items::from_vec(realms),
-            }),
+        let contents = Contents {
+            realms: Items::from_vec(realms),
+            spent_keys: Items::new(alloc),
+            spent_numbers: Items::new(alloc),
+        };
+        match find_refusal(alloc, &contents)? {
+            None => Ok(Directory { alloc, contents }),
             Some(refusal) => Err(refusal),
         }
     }
@@ -59,8 +69,10 @@ impl Directory {
     pub fn realm_count(&self) -> u32
         ensures value { result ≡ length self.now.realms }
         ensures few { result ≤ 64 }
+        // What every directory is.
+        ensures well { is_well_formed self.now ≡ true }
     {
-        self.realms.len() as u32
+        self.contents.realms.len() as u32
     }
 
     /// The realm at an index.
@@ -71,7 +83,7 @@ impl Directory {
         ensures trusts { length result.now.trusts ≤ 32 }
         ensures names { all_distinct same_text (map (λ account. account.name) result.now.accounts) ≡ true }
     {
-        &self.realms.as_slice()[i as usize]
+        &self.contents.realms.as_slice()[i as usize]
     }
 
     /// The index of the realm of this name.
@@ -80,7 +92,7 @@ impl Directory {
         ensures within { IfSome result (λ i. i < length self.now.realms) }
         ensures only { count_by (λ realm. same_text realm.name name.now) self.now.realms ≤ 1 }
     {
-        narrow(place_of_realm(self.realms.as_slice(), name))
+        narrow(place_of_realm(self.contents.realms.as_slice(), name))
     }
 
     /// The index of the account of this name in the realm at an index.
@@ -106,7 +118,7 @@ impl Directory {
         ensures within { IfSome result (λ place. place.0 < length self.now.realms) }
         ensures only { sum_by (λ realm. count_by (has_spn spn.now) realm.accounts) self.now.realms ≤ 1 }
     {
-        place_of_spn(self.realms.as_slice(), spn)
+        place_of_spn(self.contents.realms.as_slice(), spn)
     }
 
     /// Where the account of this name stands, the index of its realm and its own there: a name of one part, which is
@@ -158,8 +170,9 @@ impl Directory {
     pub fn account_by_sid(&self, sid: &Sid) -> Option<(u32, u32)>
         ensures found { result ≡ sid_place self.now sid.now }
         ensures within { IfSome result (λ place. place.0 < length self.now.realms) }
+        ensures only { sum_by (λ realm. count_by (has_sid realm.sid sid.now) realm.accounts) self.now.realms ≤ 1 }
     {
-        place_of_sid(self.realms.as_slice(), sid)
+        place_of_sid(self.contents.realms.as_slice(), sid)
     }
 
     /// The index of the first trust of one realm that leads to another: whose partner is that realm, or whose reach
@@ -183,13 +196,106 @@ impl Directory {
         has_trust_reaching(self.realm(at).trusts.as_slice(), partner, name)
     }
 
-    /// A copy.
+    /// Makes a change, if it is allowed. An `Err` changes nothing.
+    ///
+    /// # Errors
+    /// The first of these that holds: `BadField` where a name, number, key or life has not its form or range;
+    /// `UnknownRef` where the realm, account, trust or entry to be removed is not there, or a reached realm is no other
+    /// realm; `Duplicate` where a name, number, SPN or entry is there already, or the number is spent; `SameKey` where
+    /// the key has another holder, or is spent; `TooMany` where a limit would be passed; `NoMemory`.
+    pub fn change(&mut self, change: &Change) -> Result<(), DirCause>
+        ensures ok { OnOk result (changed self.old change.now ≡ Ok self.new) }
+        ensures cause { IfErr result (λ cause. cause ≢ DirCause.NoMemory → changed self.old change.now ≡ Err cause) }
+        ensures unchanged { OnErr result (self.new ≡ self.old) }
+    {
+        let changed = self.changed(change)?;
+        *self = changed;
+        Ok(())
+    }
+
+    fn changed(&self, change: &Change) -> Result<Directory, DirCause>
+        ensures { Answers DirCause.NoMemory result (changed self.now change.now) }
+    {
+        if let Some(cause) = self.find_own_cause(change)? {
+            return Err(cause);
+        }
+        let contents = self.edited(change)?;
+        match find_change_cause(self.alloc, &contents)? {
+            None => Ok(Directory {
+                alloc: self.alloc,
+                contents,
+            }),
+            Some(cause) => Err(cause),
+        }
+    }
+
+    /// Why a change is refused by itself: a form, or what it refers to.
+    fn find_own_cause(&self, change: &Change) -> Result<Option<DirCause>, AllocError>
+        ensures { IfOk result (λ cause. cause ≡ first_failing (own_rows self.now change.now)) }
+    {
+        if !change.has_forms(self.alloc)? {
+            return Ok(Some(DirCause::BadField));
+        }
+        if self.realm_by_name(change.realm()).is_none()
+            || change.account().is_some() && !is_account_found(change, self.changed_account(change))
+            || change.partner().is_some() && !is_trust_found(change, self.changed_trust(change))
+        {
+            return Ok(Some(DirCause::UnknownRef));
+        }
+        Ok(None)
+    }
+
+    /// The account that a change is made to.
+    fn changed_account(&self, change: &Change) -> Option<&Account>
+        ensures { option_copied result ≡ changed_account self.now change.now }
+    {
+        match (self.realm_by_name(change.realm()), change.account()) {
+            (Some(realm), Some(name)) => match self.account_by_name(realm, name) {
+                Some(account) => self.account_at(realm, account),
+                None => None,
+            },
+            _ => None,
+        }
+    }
+
+    /// The trust that a change is made to.
+    fn changed_trust(&self, change: &Change) -> Option<&Trust>
+        ensures { option_copied result ≡ changed_trust self.now change.now }
+    {
+        match (self.realm_by_name(change.realm()), change.partner()) {
+            (Some(realm), Some(partner)) => {
+                find_trust(self.realm(realm).trusts.as_slice(), partner)
+            }
+            _ => None,
+        }
+    }
+
+    /// The contents after a change.
+    fn edited(&self, change: &Change) -> Result<Contents, AllocError>
+        ensures value { IfOk result (λ contents. contents ≡ edited self.now change.now) }
+        ensures few { IfOk result (λ contents. length contents.realms ≤ 64) }
+        ensures accounts { IfOk result (λ contents. All (λ realm. length realm.accounts < 2 ^ 32) contents.realms) }
+        ensures trusts { IfOk result (λ contents. All (λ realm. length realm.trusts ≤ 32) contents.realms) }
+    {
+        let account = self.changed_account(change);
+        let mut spent_keys = self.contents.spent_keys.try_clone(self.alloc)?;
+        spend_key(change, account, &mut spent_keys)?;
+        let mut spent_numbers = self.contents.spent_numbers.try_clone(self.alloc)?;
+        spend_number(self.alloc, change, account, &mut spent_numbers)?;
+        Ok(Contents {
+            realms: realms_after(self.alloc, change, self.contents.realms.as_slice())?,
+            spent_keys,
+            spent_numbers,
+        })
+    }
+
+    /// A copy, with the same keys and numbers spent.
     pub fn try_clone(&self) -> Result<Directory, AllocError>
         ensures value { IfOk result (λ copied. copied ≡ self.now) }
     {
         Ok(Directory {
             alloc: self.alloc,
-            realms: self.realms.try_clone(self.alloc)?,
+            contents: self.contents.try_clone(self.alloc)?,
         })
     }
 }

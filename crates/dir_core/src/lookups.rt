@@ -4,8 +4,7 @@ ghost use Rattle.std.specs.List.{list_any};
 ghost use Rattle.kdc_prelude.specs.Texts.{is_one_of, same_text};
 ghost use Rattle.dir_core.specs.Lookups.{has_sid, has_spn, leads_to, reaches_from, sid_place_from, spn_place_from};
 
-use crate::entry::Entry;
-use crate::records::{Account, RealmRec, Trust};
+use dir_records::{Account, Entry, RealmRec, Trust};
 use krb_names::{Sid, Text};
 
 pub(crate) fn place_of_realm(realms: &[RealmRec], name: &str) -> Option<usize>

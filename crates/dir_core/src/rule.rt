@@ -118,7 +118,7 @@ pub enum Rule {
     P9,
     /// It is forwardable, or its user may be delegated (MS-SFU, "KDC Receives S4U2proxy KRB_TGS_REQ").
     P10,
-    /// The target is in the requestor's list, or the requestor is in the target's list, or the target is of another realm and resource-based delegation is asked for (MS-SFU, "KDC Receives S4U2proxy KRB_TGS_REQ").
+    /// The target is an account of this realm with an SPN of the requestor's list, and the evidence is forwardable; or it is one of this realm whose list has the requestor, the request asks for resource-based delegation, and the user may be delegated; or it is of another realm, the request asks for resource-based delegation, and the user may be delegated (MS-SFU, "KDC Receives S4U2proxy KRB_TGS_REQ").
     P11,
     /// The delegation of a local requestor's ticket has fewer than 32 services (own choice).
     P12,

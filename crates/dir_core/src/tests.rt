@@ -4,7 +4,7 @@ use krb_names::{Etype, Items, Key, Text, parse_realm, parse_sid};
 use std::process::Abort;
 
 /// A key of 32 equal octets.
-fn key(octet: u8) -> KeyRec {
+pub(crate) fn key(octet: u8) -> KeyRec {
     KeyRec {
         key: Key {
             etype: Etype::Aes256,
@@ -14,7 +14,7 @@ fn key(octet: u8) -> KeyRec {
     }
 }
 
-fn text(rt: &(impl Abort + AllocGlobal), text: &str) -> Text {
+pub(crate) fn text(rt: &(impl Abort + AllocGlobal), text: &str) -> Text {
     Text::copy(rt.alloc(), text).expect(rt, "memory")
 }
 
@@ -78,7 +78,7 @@ fn realm(
 }
 
 /// Realms R, with alice, bob and web, and U, with erin, that trust each other.
-fn two_realms(
+pub(crate) fn two_realms(
     rt: &(impl Abort + AllocGlobal),
     octet_of_alice: u8,
     reach: Option<&str>,

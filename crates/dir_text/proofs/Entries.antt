@@ -4,7 +4,7 @@ use Rattle.std.specs.Prelude.{Result, Ok, Err}
 use Rattle.kdc_prelude.specs.Results.{◌>>=◌, after}
 use Rattle.serde_json.specs.View.{items_view, view}
 use Rattle.serde_json.specs.declared.value.Value.{Value}
-use Rattle.dir_core.specs.declared.records.RealmRec.{RealmRec}
+use Rattle.dir_records.specs.declared.records.RealmRec.{RealmRec}
 use Rattle.dir_text.specs.DirectoryText.{some_of}
 use Rattle.dir_text.specs.Lists.{count_of}
 use Rattle.dir_text.specs.RealmText.{realm_of, realms_of}

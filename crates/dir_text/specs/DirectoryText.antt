@@ -5,12 +5,12 @@ use Rattle.kdc_prelude.specs.Results.{◌>>=◌}
 use Rattle.serde_json.specs.Data.{Data, Items, no_items, item}
 use Rattle.serde_json.specs.Find.{get}
 use Rattle.serde_json.specs.Read.{read}
-use Rattle.dir_core.specs.DirectoryValue.{DirectoryValue}
-use Rattle.dir_core.specs.WellFormed.{directory_of as directory_with}
-use Rattle.dir_core.specs.declared.records.RealmRec.{RealmRec}
-use Rattle.dir_core.specs.declared.refusal.DirCause.TheVariants.{NotJson, MissingField, TooMany}
-use Rattle.dir_core.specs.declared.refusal.DirPlace.TheVariants.{Whole}
-use Rattle.dir_core.specs.declared.refusal.DirRefusal.{DirRefusal}
+use Rattle.dir_records.specs.DirectoryValue.{DirectoryValue}
+use Rattle.dir_records.specs.WellFormed.{directory_of as directory_with}
+use Rattle.dir_records.specs.declared.records.RealmRec.{RealmRec}
+use Rattle.dir_records.specs.declared.refusal.DirCause.TheVariants.{NotJson, MissingField, TooMany}
+use Rattle.dir_records.specs.declared.refusal.DirPlace.TheVariants.{Whole}
+use Rattle.dir_records.specs.declared.refusal.DirRefusal.{DirRefusal}
 use Rattle.dir_text.specs.Lists.{entries_of}
 use Rattle.dir_text.specs.Members.{is_object, is_object_of, passing, refused, required}
 use Rattle.dir_text.specs.RealmText.{realms_of}

@@ -9,9 +9,9 @@ use Rattle.krb_names.specs.Keys.{key_of}
 use Rattle.krb_names.specs.declared.etype.Etype.{Etype}
 use Rattle.krb_names.specs.declared.etype.Etype.TheVariants.{Aes128, Aes256}
 use Rattle.krb_names.specs.declared.key.Key.{Key}
-use Rattle.dir_core.specs.declared.records.KeyRec.{KeyRec}
-use Rattle.dir_core.specs.declared.refusal.DirPlace.{DirPlace}
-use Rattle.dir_core.specs.declared.refusal.DirRefusal.{DirRefusal}
+use Rattle.dir_records.specs.declared.records.KeyRec.{KeyRec}
+use Rattle.dir_records.specs.declared.refusal.DirPlace.{DirPlace}
+use Rattle.dir_records.specs.declared.refusal.DirRefusal.{DirRefusal}
 use Rattle.dir_text.specs.Members.{is_object, is_object_of, or_bad, passing, required}
 use Rattle.dir_text.specs.Values.{number_of, ok_of, text_of}
 

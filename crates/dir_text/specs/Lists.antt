@@ -3,9 +3,9 @@ use Rattle.std.specs.Prelude.{ℕ, suc, Bool, nat_lt, List, [], ◌∷◌, if◌
 use Rattle.kdc_prelude.specs.Results.{◌>>=◌}
 use Rattle.serde_json.specs.Data.{Data, Items, no_items, item}
 use Rattle.serde_json.specs.Find.{as_array}
-use Rattle.dir_core.specs.declared.refusal.DirCause.TheVariants.{TooMany}
-use Rattle.dir_core.specs.declared.refusal.DirPlace.{DirPlace}
-use Rattle.dir_core.specs.declared.refusal.DirRefusal.{DirRefusal}
+use Rattle.dir_records.specs.declared.refusal.DirCause.TheVariants.{TooMany}
+use Rattle.dir_records.specs.declared.refusal.DirPlace.{DirPlace}
+use Rattle.dir_records.specs.declared.refusal.DirRefusal.{DirRefusal}
 use Rattle.dir_text.specs.Members.{or_bad, passing, refused}
 
 abbrev pub count_of : Items → ℕ

@@ -3,11 +3,11 @@ use Rattle.std.specs.Prelude.{ℕ, ◌&&◌, Bool, true, false, List, if◌then�
 use Rattle.kdc_prelude.specs.Texts.{is_one_of}
 use Rattle.serde_json.specs.Data.{Data, null, boolean, number, string, array, object, Members, no_members, member}
 use Rattle.serde_json.specs.Find.{as_object}
-use Rattle.dir_core.specs.declared.refusal.DirCause.{DirCause}
-use Rattle.dir_core.specs.declared.refusal.DirCause.TheVariants.{MissingField, BadField, NoMemory}
-use Rattle.dir_core.specs.declared.refusal.DirPlace.{DirPlace}
-use Rattle.dir_core.specs.declared.refusal.DirPlace.TheVariants.{Whole}
-use Rattle.dir_core.specs.declared.refusal.DirRefusal.{DirRefusal}
+use Rattle.dir_records.specs.declared.refusal.DirCause.{DirCause}
+use Rattle.dir_records.specs.declared.refusal.DirCause.TheVariants.{MissingField, BadField, NoMemory}
+use Rattle.dir_records.specs.declared.refusal.DirPlace.{DirPlace}
+use Rattle.dir_records.specs.declared.refusal.DirPlace.TheVariants.{Whole}
+use Rattle.dir_records.specs.declared.refusal.DirRefusal.{DirRefusal}
 
 abbrev pub refused : {X : Type 0} → DirCause → DirPlace → Result X DirRefusal
 refused cause place = Err (record { cause = cause; place = place })

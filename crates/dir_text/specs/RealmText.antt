@@ -3,11 +3,11 @@ use Rattle.std.specs.Prelude.{ℕ, ◌+◌, ◌-◌, List, [], ◌∷◌, length
 use Rattle.kdc_prelude.specs.Results.{◌>>=◌}
 use Rattle.serde_json.specs.Data.{Data, Items, no_items, item}
 use Rattle.serde_json.specs.Find.{get}
-use Rattle.dir_core.specs.declared.records.Account.{Account}
-use Rattle.dir_core.specs.declared.records.RealmRec.{RealmRec}
-use Rattle.dir_core.specs.declared.records.Trust.{Trust}
-use Rattle.dir_core.specs.declared.refusal.DirPlace.TheVariants.{Realm}
-use Rattle.dir_core.specs.declared.refusal.DirRefusal.{DirRefusal}
+use Rattle.dir_records.specs.declared.records.Account.{Account}
+use Rattle.dir_records.specs.declared.records.RealmRec.{RealmRec}
+use Rattle.dir_records.specs.declared.records.Trust.{Trust}
+use Rattle.dir_records.specs.declared.refusal.DirPlace.TheVariants.{Realm}
+use Rattle.dir_records.specs.declared.refusal.DirRefusal.{DirRefusal}
 use Rattle.dir_text.specs.AccountText.{accounts_of}
 use Rattle.dir_text.specs.KeyText.{key_in}
 use Rattle.dir_text.specs.Lists.{entries_in}

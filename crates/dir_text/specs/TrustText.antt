@@ -3,10 +3,10 @@ use Rattle.std.specs.Prelude.{ℕ, ◌+◌, List, [], ◌∷◌, codes, Result, 
 use Rattle.kdc_prelude.specs.Results.{◌>>=◌}
 use Rattle.serde_json.specs.Data.{Data, Items, no_items, item}
 use Rattle.serde_json.specs.Find.{get}
-use Rattle.dir_core.specs.declared.records.Trust.{Trust}
-use Rattle.dir_core.specs.declared.refusal.DirPlace.{DirPlace}
-use Rattle.dir_core.specs.declared.refusal.DirPlace.TheVariants.{Trust as TrustPlace}
-use Rattle.dir_core.specs.declared.refusal.DirRefusal.{DirRefusal}
+use Rattle.dir_records.specs.declared.records.Trust.{Trust}
+use Rattle.dir_records.specs.declared.refusal.DirPlace.{DirPlace}
+use Rattle.dir_records.specs.declared.refusal.DirPlace.TheVariants.{Trust as TrustPlace}
+use Rattle.dir_records.specs.declared.refusal.DirRefusal.{DirRefusal}
 use Rattle.dir_text.specs.KeyText.{key_in}
 use Rattle.dir_text.specs.Lists.{list_in}
 use Rattle.dir_text.specs.Members.{is_object, is_object_of, passing, required}

@@ -7,9 +7,9 @@ use Rattle.krb_names.specs.Pieces.{is_name}
 use Rattle.krb_names.specs.SidTexts.{sid_reading}
 use Rattle.krb_names.specs.SidValue.{SidValue}
 use Rattle.krb_names.specs.declared.refusal.NameRefusal.{NameRefusal}
-use Rattle.dir_core.specs.Forms.{is_account_name, is_service}
-use Rattle.dir_core.specs.declared.refusal.DirPlace.{DirPlace}
-use Rattle.dir_core.specs.declared.refusal.DirRefusal.{DirRefusal}
+use Rattle.dir_records.specs.Forms.{is_account_name, is_service}
+use Rattle.dir_records.specs.declared.refusal.DirPlace.{DirPlace}
+use Rattle.dir_records.specs.declared.refusal.DirRefusal.{DirRefusal}
 use Rattle.dir_text.specs.Members.{or_bad, passing, required}
 
 abbrev pub text_of : DirPlace → Data → Result (List ℕ) DirRefusal

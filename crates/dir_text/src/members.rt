@@ -4,7 +4,7 @@ ghost use Rattle.std.specs.BTreeMap.{keys};
 ghost use Rattle.std.specs.List.{list_all};
 ghost use Rattle.serde_json.specs.View.{view};
 ghost use Rattle.kdc_prelude.specs.Texts.{is_one_of};
-ghost use Rattle.dir_core.specs.WellFormed.{no_memory};
+ghost use Rattle.dir_records.specs.WellFormed.{no_memory};
 ghost use Rattle.dir_text.specs.Members.{is_object, is_object_of, passing, required};
 
 use dir_core::{DirCause, DirPlace, DirRefusal};

@@ -2,7 +2,7 @@
 ghost use Rattle.std.specs.Prelude.{◌≡◌, ◌≢◌, ◌≤◌, length, Ok, Err, IfOk, MatchResult};
 ghost use Rattle.serde_json.specs.View.{items_view, view};
 ghost use Rattle.dir_text.specs.DirectoryText.{directory_of, json_of, or_not_json, realms_in, some_of, value_of};
-ghost use Rattle.dir_core.specs.WellFormed.{no_memory};
+ghost use Rattle.dir_records.specs.WellFormed.{no_memory};
 ghost use Rattle.dir_text.specs.Gives.{Gives};
 
 use crate::lists::entries_of;

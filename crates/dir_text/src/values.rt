@@ -4,7 +4,7 @@ ghost use Rattle.serde_json.specs.View.{view};
 ghost use Rattle.dir_text.specs.Gives.{Gives};
 ghost use Rattle.dir_text.specs.Members.{optional, passing};
 ghost use Rattle.krb_names.specs.Pieces.{is_name};
-ghost use Rattle.dir_core.specs.Forms.{is_service};
+ghost use Rattle.dir_records.specs.Forms.{is_service};
 ghost use Rattle.dir_text.specs.Values.{account_name_of, flag_of, number_of, realm_name_of, realm_sid_of, salt_of, sid_of, spn_of, text_of};
 
 use crate::members::bad_field;

@@ -1,3 +1,4 @@
 pub mod LongTexts
+pub mod Printing
 pub mod Readable
-pub mod Silence
+pub mod Statuses

@@ -1,10 +1,10 @@
 -- Lemmas on texts of a directory above their limit.
-use Rattle.std.proofs.Common.{◌≡◌, ◌<◌, ℕ, List, length, arith, refl, sym}
-use Rattle.std.specs.Prelude.{Option, None, Some, IfSome, Ok, Err}
+use Rattle.std.proofs.Common.{◌≡◌, ◌<◌, ℕ, List, length}
+use Rattle.std.specs.Prelude.{Option, None, Some, IfSome, Err}
 use Rattle.std.proofs.lemmas.Bool.{lt-ltb}
-use Rattle.dir_core.specs.declared.refusal.DirCause.TheVariants.{TooMany}
-use Rattle.dir_core.specs.declared.refusal.DirPlace.TheVariants.{Whole}
-use Rattle.dir_core.specs.declared.refusal.DirRefusal.{DirRefusal}
+use Rattle.dir_records.specs.declared.refusal.DirCause.TheVariants.{TooMany}
+use Rattle.dir_records.specs.declared.refusal.DirPlace.TheVariants.{Whole}
+use Rattle.dir_records.specs.declared.refusal.DirRefusal.{DirRefusal}
 use Rattle.dir_text.specs.DirectoryText.{directory_of, value_of}
 
 abbrev pub too_long : DirRefusal

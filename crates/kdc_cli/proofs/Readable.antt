@@ -1,7 +1,7 @@
 -- Lemmas on lines that are text.
 use Rattle.std.proofs.Common.{◌≡◌, ◌≤◌, ℕ, List, Bool, true, false, cond, ◌||◌, length, refl, arith}
 use Rattle.std.specs.Prelude.{Option, None, Some, nat_lt}
-use Rattle.std.specs.Str.{IsUtf8, is_utf8}
+use Rattle.std.specs.Str.{IsUtf8}
 use Rattle.std.proofs.lemmas.Str.{is_utf8-from_IsUtf8}
 use Rattle.std.proofs.lemmas.Bool.Decides.{nat_tests}
 use Rattle.kdc_prelude.proofs.Texts.{is_utf8-false}

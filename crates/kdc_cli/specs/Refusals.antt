@@ -1,10 +1,10 @@
 -- What is printed of a refused directory: its cause and its place (own choice).
 use Rattle.std.specs.Prelude.{ℕ, List, ◌++◌, codes, decimal}
-use Rattle.dir_core.specs.declared.refusal.DirCause.{DirCause}
-use Rattle.dir_core.specs.declared.refusal.DirCause.TheVariants.{NotJson, MissingField, BadField, Duplicate, SameKey, UnknownRef, TooMany, NoMemory}
-use Rattle.dir_core.specs.declared.refusal.DirPlace.{DirPlace}
-use Rattle.dir_core.specs.declared.refusal.DirPlace.TheVariants.{Whole, Realm, Account, Trust, Line}
-use Rattle.dir_core.specs.declared.refusal.DirRefusal.{DirRefusal}
+use Rattle.dir_records.specs.declared.refusal.DirCause.{DirCause}
+use Rattle.dir_records.specs.declared.refusal.DirCause.TheVariants.{NotJson, MissingField, BadField, Duplicate, SameKey, UnknownRef, TooMany, NoMemory}
+use Rattle.dir_records.specs.declared.refusal.DirPlace.{DirPlace}
+use Rattle.dir_records.specs.declared.refusal.DirPlace.TheVariants.{Whole, Realm, Account, Trust, Line}
+use Rattle.dir_records.specs.declared.refusal.DirRefusal.{DirRefusal}
 
 abbrev pub cause_name : DirCause → List ℕ
 cause_name NotJson = codes "NotJson"

@@ -1,55 +1,66 @@
 -- What the program prints, and its status.
-use Rattle.std.specs.Prelude.{◌≡◌, ◌⊎◌, IfSome, IsOk, ℕ, ◌==◌, ◌||◌, Bool, true, false, nat_lt, List, [], ◌∷◌, ◌++◌, length, codes, if◌then◌else◌, Option, None, Some, Result, Ok, Err}
+use Rattle.std.specs.Prelude.{◌≡◌, ◌⊎◌, IfSome, IsOk, ℕ, ◌==◌, Bool, true, false, nat_lt, List, [], ◌∷◌, ◌++◌, length, codes, if◌then◌else◌, Option, None, Some, Result, Ok, Err}
 use Rattle.std.specs.List.{list_any}
 use Rattle.std.specs.Io.KnownBytes.{Appends}
 use Rattle.kdc_prelude.specs.Printed.{AppendsFront}
-use Rattle.dir_core.specs.DirectoryValue.{DirectoryValue}
-use Rattle.dir_core.specs.declared.refusal.DirRefusal.{DirRefusal}
+use Rattle.dir_records.specs.DirectoryValue.{DirectoryValue}
+use Rattle.dir_core.specs.RuleNames.{name_of}
+use Rattle.dir_records.specs.declared.refusal.DirRefusal.{DirRefusal}
 use Rattle.dir_text.specs.DirectoryText.{directory_of}
+use Rattle.ticket_explain.specs.Explained.{explained}
+use Rattle.ticket_explain.specs.declared.fault.ExplainFault.{ExplainFault}
+use Rattle.ticket_explain.specs.declared.fault.ExplainFault.TheVariants.{Deny, NoMemory}
+use Rattle.kdc_cli.specs.Derived.{key_line}
+use Rattle.kdc_cli.specs.Outcomes.{Outcome, answered, is_fault, one_line}
 use Rattle.kdc_cli.specs.Questions.{questions}
 use Rattle.kdc_cli.specs.Refusals.{refusal_text}
 use Rattle.kdc_cli.specs.declared.words.Command.{Command}
-use Rattle.kdc_cli.specs.declared.words.Command.TheVariants.{Ask}
+use Rattle.kdc_cli.specs.declared.words.Command.TheVariants.{Over, Derive}
+use Rattle.kdc_cli.specs.declared.words.Task.{Task}
+use Rattle.kdc_cli.specs.declared.words.Task.TheVariants.{Ask, Explain}
 
--- a status and what is printed
-pub record Outcome : Type 0 where
-  pub status : ℕ
-  pub text : List ℕ
+-- what is told of a ticket, or the rule that refuses it
+abbrev pub told : Result (List ℕ) ExplainFault → Outcome
+told (Ok text) = answered text
+told (Err (Deny rule)) = one_line 10 (codes "refused " ++ name_of rule)
+told (Err NoMemory) = record { status = 3; text = [] }
 
--- a status and one line
-abbrev pub one_line : ℕ → List ℕ → Outcome
-one_line status line = record { status = status; text = line ++ 10 ∷ [] }
+-- the answers to the lines, or what is told of the ticket
+abbrev pub with_task : Task → DirectoryValue → List ℕ → Outcome
+with_task Ask dir input = answered (questions dir input)
+with_task Explain dir input = told (explained input)
 
--- the answers over an input of at most 1,048,576 bytes
-abbrev pub answer_input : DirectoryValue → List ℕ → Outcome
-answer_input dir input =
-    if nat_lt 1048576 (length input) then one_line 14 (codes "input too long")
-    else record { status = 0; text = questions dir input }
+-- an input has at most 1,048,576 bytes
+abbrev pub with_input : Task → DirectoryValue → List ℕ → Outcome
+with_input job dir input = if nat_lt 1048576 (length input) then one_line 14 (codes "input too long") else with_task job dir input
 
--- the answers over a directory, where the input is told or does not count
-abbrev pub answer_over : Result DirectoryValue DirRefusal → Option (List ℕ) → Option Outcome
-answer_over (Err refusal) input = Some (one_line 4 (refusal_text refusal))
-answer_over (Ok dir) None = None
-answer_over (Ok dir) (Some input) = Some (answer_input dir input)
+-- over a directory, where the input is told or does not count
+abbrev pub over_directory : Task → Result DirectoryValue DirRefusal → Option (List ℕ) → Option Outcome
+over_directory job (Err refusal) input = Some (one_line 4 (refusal_text refusal))
+over_directory job (Ok dir) None = None
+over_directory job (Ok dir) (Some input) = Some (with_input job dir input)
 
-abbrev pub answer_ask : Option (List ℕ) → Option (List ℕ) → Option Outcome
-answer_ask None input = None
-answer_ask (Some text) input = answer_over (directory_of text) input
+abbrev pub outcome_over : Task → Option (List ℕ) → Option (List ℕ) → Option Outcome
+outcome_over job None input = None
+outcome_over job (Some text) input = over_directory job (directory_of text) input
 
 -- the outcome of a run in which no device fails and no memory is wanted, by its command, the text of the directory and
 -- the input, where what is told of these determines it
 abbrev pub outcome_by : Option Command → Option (List ℕ) → Option (List ℕ) → Option Outcome
 outcome_by None text input = Some (one_line 2 (codes "bad words"))
-outcome_by (Some Ask) text input = answer_ask text input
+outcome_by (Some (Over job)) text input = outcome_over job text input
+outcome_by (Some (Derive from)) text input = Some (one_line 0 (key_line from))
 
--- want of memory, and a fault of reading or of writing
-abbrev pub is_fault : ℕ → Bool
-is_fault status = status == 3 || status == 5 || status == 6
+-- the statuses that a task may have, whatever the devices tell
+abbrev pub is_task_status : Task → ℕ → Bool
+is_task_status Ask status = list_any (λ known. known == status) (0 ∷ 3 ∷ 4 ∷ 5 ∷ 6 ∷ 14 ∷ [])
+is_task_status Explain status = list_any (λ known. known == status) (0 ∷ 3 ∷ 4 ∷ 5 ∷ 6 ∷ 10 ∷ 14 ∷ [])
 
 -- the statuses that a run may have, whatever the devices tell: with bad words 2 or a fault but that of reading
 abbrev pub is_status : Option Command → ℕ → Bool
 is_status None status = list_any (λ known. known == status) (2 ∷ 3 ∷ 6 ∷ [])
-is_status (Some Ask) status = list_any (λ known. known == status) (0 ∷ 3 ∷ 4 ∷ 5 ∷ 6 ∷ 14 ∷ [])
+is_status (Some (Over job)) status = is_task_status job status
+is_status (Some (Derive from)) status = list_any (λ known. known == status) (0 ∷ 3 ∷ 6 ∷ [])
 
 -- reading failed: of the directory, or of the input where the directory, as far as its text is told, is not refused
 abbrev pub ReadingFailed : Option (List ℕ) → Type 0 → Type 0 → Type 0

@@ -1,10 +1,9 @@
 //! The answers to question lines.
-ghost use Rattle.std.specs.Prelude.{◌≡◌, ◌==◌, ◌++◌, map, OnOk, IfOk};
-ghost use Rattle.std.specs.List.{slice_split};
-ghost use Rattle.kdc_prelude.specs.Lines.{lines_of, without_last_newline};
+ghost use Rattle.std.specs.Prelude.{◌≡◌, ◌++◌, OnOk, IfOk};
 ghost use Rattle.kdc_cli.specs.Questions.{answer_text, answer_to, outcome_of, questions, text_of};
 
 use crate::question::{Question, read_question};
+use change_lines::split_lines;
 use dir_core::Directory;
 use s4u_rules::{Asked, ask_classic, ask_self};
 use std::alloc::{AllocError, Global};
@@ -67,29 +66,4 @@ fn answer(dir: &Directory, question: &Question) -> Asked
         Question::ToSelf(service, user) => ask_self(dir, service, user),
         Question::Classic(service, user, target) => ask_classic(dir, service, user, target),
     }
-}
-
-/// The lines of a text. Each ends with a newline, and the last one may lack it.
-fn split_lines(alloc: Global, text: &[u8]) -> Result<Vec<&[u8]>, AllocError>
-    ensures { IfOk result (λ lines. map (λ line. line.now) lines.items ≡ lines_of text.now) }
-{
-    if text.is_empty() {
-        return Ok(Vec::new(alloc));
-    }
-    split_at_newlines(alloc, drop_last_newline(text))
-}
-
-fn drop_last_newline(text: &[u8]) -> &[u8]
-    ensures { result.now ≡ without_last_newline text.now }
-{
-    match text {
-        [front @ .., b'\n'] => front,
-        _ => text,
-    }
-}
-
-fn split_at_newlines(alloc: Global, text: &[u8]) -> Result<Vec<&[u8]>, AllocError>
-    ensures { IfOk result (λ lines. map (λ line. line.now) lines.items ≡ slice_split (λ b. b == 10) text.now) }
-{
-    text.split(|b| *b == b'\n').collect(alloc)
 }

@@ -2,12 +2,16 @@
 #![tactic(auto)]
 
 mod ask;
+mod derive;
 mod file_source;
+mod load;
 mod question;
 mod refusal;
+mod reply;
 mod run;
 mod std_sink;
 mod std_source;
+mod task;
 #[cfg(test)]
 mod tests;
 mod words;

@@ -151,6 +151,17 @@ fn words_are_a_command_or_bad(rt: HostRuntime) -> Result<(), Fail> {
         ["ask"].as_slice(),
         ["ask", "a", "b"].as_slice(),
         ["Ask", "a"].as_slice(),
+        ["explain"].as_slice(),
+        ["explain", "a", "b"].as_slice(),
+        ["derive", "17", "1", "a"].as_slice(),
+        ["derive", "17", "1", "a", "b", "c"].as_slice(),
+        ["derive", "17", "0", "a", "b"].as_slice(),
+        ["derive", "017", "1", "a", "b"].as_slice(),
+        ["derive", "17", "01", "a", "b"].as_slice(),
+        ["derive", "17", "+1", "a", "b"].as_slice(),
+        ["derive", "17", "1000001", "a", "b"].as_slice(),
+        ["derive", "16", "1", "a", "b"].as_slice(),
+        ["derive", "19", "1", "a", "b"].as_slice(),
     ];
     for words in rows {
         let (status, text) = run(&rt, words, REALM, b"")?;
@@ -163,9 +174,58 @@ fn words_are_a_command_or_bad(rt: HostRuntime) -> Result<(), Fail> {
 #[test]
 fn an_input_above_its_limit_is_not_answered(rt: HostRuntime) -> Result<(), Fail> {
     let input = "\n".repeat(rt.alloc(), 1_048_577)?;
-    let (status, text) = run(&rt, &["ask", "dir.json"], REALM, input.as_bytes())?;
-    assert_eq!(rt; status, 14);
-    assert_eq!(rt; text.as_slice(), b"input too long\n".as_slice());
+    for word in ["ask", "explain"] {
+        let (status, text) = run(&rt, &[word, "dir.json"], REALM, input.as_bytes())?;
+        assert_eq!(rt; status, 14, "{word}");
+        assert_eq!(rt; text.as_slice(), b"input too long\n".as_slice(), "{word}");
+    }
+    Ok(())
+}
+
+/// A key of each type that RFC 3962, appendix B, has.
+#[test]
+fn a_key_is_derived(rt: HostRuntime) -> Result<(), Fail> {
+    let rows = [
+        ("17", "1", "42263c6e89f4fc28b8df68ee09799f15\n"),
+        (
+            "18",
+            "1200",
+            "55a6ac740ad17b4846941051e1e8b0a7548d93b0ab30a8bc3ff16280382b8c2a\n",
+        ),
+    ];
+    for (etype, rounds, key) in rows {
+        let words = ["derive", etype, rounds, "ATHENA.MIT.EDUraeburn", "password"];
+        let (status, text) = run(&rt, &words, "", b"")?;
+        assert_eq!(rt; status, 0, "{etype}");
+        assert_eq!(rt; text.as_slice(), key.as_bytes(), "{etype}");
+    }
+    Ok(())
+}
+
+/// A ticket for http/web of R, the same without its last byte, no hex, and two lines.
+#[test]
+fn a_ticket_is_explained_or_refused(rt: HostRuntime) -> Result<(), Fail> {
+    let ticket =
+        "61373035a003020105a1031b0152a2163014a003020102a10d300b1b04687474701b03776562a311300fa003020112a103020101a203040100";
+    let told = "ticket http/web@R etype 18 kvno 1\n";
+    let rows = [
+        ("TICKET", 0, told),
+        ("TICKET\n", 0, told),
+        ("TICKET\n\n", 10, "refused U3\n"),
+        ("TICKET00", 10, "refused U3\n"),
+        ("zz", 10, "refused U3\n"),
+        ("", 10, "refused U3\n"),
+    ];
+    for (shape, status, printed) in rows {
+        let input = shape.replace(rt.alloc(), "TICKET", ticket)?;
+        let (found, text) = run(&rt, &["explain", "dir.json"], REALM, input.as_bytes())?;
+        assert_eq!(rt; found, status, "{shape}");
+        assert_eq!(rt; text.as_slice(), printed.as_bytes(), "{shape}");
+    }
+    let cut = &ticket.as_bytes()[..ticket.len() - 2];
+    let (status, text) = run(&rt, &["explain", "dir.json"], REALM, cut)?;
+    assert_eq!(rt; status, 10);
+    assert_eq!(rt; text.as_slice(), b"refused U3\n".as_slice());
     Ok(())
 }
 

@@ -4,9 +4,9 @@ use Rattle.std.specs.List.{list_any}
 use Rattle.kdc_prelude.specs.Texts.{is_one_of}
 use Rattle.kdc_prelude.specs.Verdicts.{first_failing}
 use Rattle.krb_names.specs.declared.principal.Principal.{Principal}
-use Rattle.dir_core.specs.DirectoryValue.{DirectoryValue}
+use Rattle.dir_records.specs.DirectoryValue.{DirectoryValue}
 use Rattle.dir_core.specs.Lookups.{account_of, account_serving}
-use Rattle.dir_core.specs.declared.records.Account.{Account}
+use Rattle.dir_records.specs.declared.records.Account.{Account}
 use Rattle.dir_core.specs.declared.rule.Rule.{Rule}
 use Rattle.dir_core.specs.declared.rule.Rule.TheVariants.{G13, G14, G19, G20, S6, P9, P11}
 use Rattle.s4u_rules.specs.Outcomes.{is_account, is_account_with, is_enabled, may_be_delegated, outcome}

@@ -3,9 +3,9 @@ use Rattle.std.specs.Prelude.{◌&&◌, Bool, false, nat_lt, length, List, [], �
 use Rattle.kdc_prelude.specs.Texts.{same_text}
 use Rattle.kdc_prelude.specs.Verdicts.{first_failing}
 use Rattle.krb_names.specs.declared.principal.Principal.{Principal}
-use Rattle.dir_core.specs.DirectoryValue.{DirectoryValue}
+use Rattle.dir_records.specs.DirectoryValue.{DirectoryValue}
 use Rattle.dir_core.specs.Lookups.{account_of}
-use Rattle.dir_core.specs.declared.records.Account.{Account}
+use Rattle.dir_records.specs.declared.records.Account.{Account}
 use Rattle.dir_core.specs.declared.rule.Rule.{Rule}
 use Rattle.dir_core.specs.declared.rule.Rule.TheVariants.{G13, G14, S4, S5, S6, S7}
 use Rattle.s4u_rules.specs.Outcomes.{is_account, is_account_with, is_enabled, may_be_delegated, outcome}

@@ -1,6 +1,6 @@
 -- Answers to questions, and what they ask of accounts.
 use Rattle.std.specs.Prelude.{Bool, true, false, not, Option, None, Some, is_some}
-use Rattle.dir_core.specs.declared.records.Account.{Account}
+use Rattle.dir_records.specs.declared.records.Account.{Account}
 use Rattle.dir_core.specs.declared.rule.Rule.{Rule}
 use Rattle.s4u_rules.specs.declared.asked.Asked.{Asked}
 use Rattle.s4u_rules.specs.declared.asked.Asked.TheVariants.{Forwardable, Allowed, Deny}

@@ -2,10 +2,10 @@ use Rattle.std.proofs.Common.{◌≡◌, sym, ap, subst, ◌∙◌}
 use Rattle.std.specs.Prelude.{List, Result}
 use Rattle.kdc_prelude.specs.Results.{◌>>=◌}
 use Rattle.serde_json.specs.Data.{Data}
-use Rattle.dir_core.specs.DirectoryValue.{DirectoryValue}
-use Rattle.dir_core.specs.WellFormed.{directory_of as directory_with}
-use Rattle.dir_core.specs.declared.records.RealmRec.{RealmRec}
-use Rattle.dir_core.specs.declared.refusal.DirRefusal.{DirRefusal}
+use Rattle.dir_records.specs.DirectoryValue.{DirectoryValue}
+use Rattle.dir_records.specs.WellFormed.{directory_of as directory_with}
+use Rattle.dir_records.specs.declared.records.RealmRec.{RealmRec}
+use Rattle.dir_records.specs.declared.refusal.DirRefusal.{DirRefusal}
 use Rattle.dir_text.specs.Gives.{Gives}
 use Rattle.dir_text.specs.DirectoryText.{directory_of, realms_in}
 use Rattle.dir_text.proofs.read.read_directory.Goals as goal

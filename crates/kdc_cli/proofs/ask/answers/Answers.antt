@@ -1,4 +1,4 @@
-use Rattle.std.proofs.Common.{◌≡◌, sym, ap, ◌∙◌, List, ℕ, Bor}
+use Rattle.std.proofs.Common.{sym, ap, ◌∙◌, List, ℕ, Bor}
 use Rattle.std.specs.Prelude.{flat_map}
 use Rattle.kdc_cli.specs.Questions.{answer_to}
 use Rattle.kdc_prelude.proofs.Lists.{finished, flat_map-map}

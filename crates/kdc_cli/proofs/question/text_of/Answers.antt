@@ -1,4 +1,4 @@
-use Rattle.std.proofs.Common.{◌≡◌, sym, ap, ◌∙◌, arith}
+use Rattle.std.proofs.Common.{sym, ap, ◌∙◌}
 use Rattle.std.specs.Prelude.{Some}
 use Rattle.kdc_cli.proofs.Readable.{not_readable, is_readable}
 use Rattle.kdc_cli.proofs.question.text_of.Goals as goal

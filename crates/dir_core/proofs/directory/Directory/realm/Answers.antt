@@ -1,22 +1,22 @@
 use Rattle.std.proofs.Common.{◌≡◌, ◌<◌, sym, ◌∙◌, ap, get_or, length, refl, arith}
 use Rattle.std.specs.Prelude.{Some, slice_get}
 use Rattle.std.proofs.lemmas.Option.{slice_get_read}
-use Rattle.dir_core.proofs.Apart.{apart_names}
-use Rattle.dir_core.proofs.Bounds.{IsBounded, well_bounded}
+use Rattle.dir_records.proofs.Apart.{apart_names}
+use Rattle.dir_records.proofs.Bounds.{IsBounded, well_bounded}
 use Rattle.dir_core.proofs.directory.Directory.realm.Goals as goal
 
-within : (c : goal.After-index-as_slice-i) → c.args.i < length c.self.inside.realms
+within : (c : goal.After-index-as_slice-i) → c.args.i < length c.self.inside.contents.realms
 within c = omega (arith, ap length c.as_slice.ensures, ap (λ d. length d.realms) c.self.view_is)
 
-is_read : (c : goal.After-index-as_slice-i) → c.index-as_slice-i.result ≡ get_or c.self.inside.realms c.args.i c.index-as_slice-i.result
+is_read : (c : goal.After-index-as_slice-i) → c.index-as_slice-i.result ≡ get_or c.self.inside.contents.realms c.args.i c.index-as_slice-i.result
 is_read c = c.index-as_slice-i.is ∙ ap (λ l. get_or l c.args.i c.index-as_slice-i.result) c.as_slice.ensures
 
 bounded : (c : goal.After-index-as_slice-i) → IsBounded c.index-as_slice-i.result
 bounded c =
     let realm = c.index-as_slice-i.result in
-    let realms = c.self.inside.realms in
+    let realms = c.self.inside.contents.realms in
     let same : get_or realms c.args.i realm ≡ realm = sym (is_read c) in
-    let at_index : IsBounded (get_or realms c.args.i realm) = (well_bounded realms c.self.invariant).each c.args.i realm (within c) in
+    let at_index : IsBounded (get_or realms c.args.i realm) = (well_bounded c.self.inside.contents c.self.invariant).each c.args.i realm (within c) in
     rw same at at_index
 
 pub returns-clause-accounts : goal.returns-clause-accounts
@@ -27,6 +27,6 @@ returns-clause-trusts c = (bounded c).trusts
 
 pub returns-clause-names : goal.returns-clause-names
 returns-clause-names c =
-    let realms = c.self.inside.realms in
+    let realms = c.self.inside.contents.realms in
     let found : slice_get realms c.args.i ≡ Some c.index-as_slice-i.result = slice_get_read realms (length realms) c.args.i c.index-as_slice-i.result refl (within c) (is_read c) in
-    apart_names realms c.self.invariant c.args.i c.index-as_slice-i.result found
+    apart_names c.self.inside.contents c.self.invariant c.args.i c.index-as_slice-i.result found

@@ -1,0 +1,4 @@
+pub mod Batches
+pub mod ChangeLines
+pub mod Fields
+pub mod Gives

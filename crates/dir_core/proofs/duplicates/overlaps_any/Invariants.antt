@@ -1,8 +1,0 @@
-use Rattle.std.proofs.Common.{◌≡◌, drop}
-use Rattle.std.specs.List.{list_any}
-use Rattle.dir_core.specs.Clashes.{overlaps}
-use Rattle.dir_core.proofs.duplicates.overlaps_any.Given as goal
-
-abbrev pub invariant-loop-other : goal.invariant-loop-other
-invariant-loop-other l =
-    list_any (overlaps l.sid) (drop l.other-index l.others) ≡ list_any (overlaps l.sid) l.others

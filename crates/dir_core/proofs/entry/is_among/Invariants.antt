@@ -1,6 +1,0 @@
-use Rattle.std.proofs.Common.{◌≡◌, drop}
-use Rattle.std.specs.List.{list_any}
-use Rattle.dir_core.proofs.entry.is_among.Given as goal
-
-abbrev pub invariant-loop-other : goal.invariant-loop-other
-invariant-loop-other g l = list_any (g.T.Entry.same l.entry) (drop l.other-index l.others) ≡ list_any (g.T.Entry.same l.entry) l.others

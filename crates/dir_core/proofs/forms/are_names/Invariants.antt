@@ -1,7 +1,0 @@
-use Rattle.std.proofs.Common.{◌≡◌, drop}
-use Rattle.std.specs.List.{list_all}
-use Rattle.krb_names.specs.Pieces.{is_name}
-use Rattle.dir_core.proofs.forms.are_names.Given as goal
-
-abbrev pub invariant-loop-text : goal.invariant-loop-text
-invariant-loop-text l = list_all is_name (drop l.text-index l.texts) ≡ list_all is_name l.texts

@@ -1,7 +1,0 @@
-use Rattle.std.proofs.Common.{◌≡◌, drop}
-use Rattle.std.specs.List.{list_all}
-use Rattle.dir_core.specs.Forms.{is_service}
-use Rattle.dir_core.proofs.forms.are_services.Given as goal
-
-abbrev pub invariant-loop-spn : goal.invariant-loop-spn
-invariant-loop-spn l = list_all is_service (drop l.spn-index l.spns) ≡ list_all is_service l.spns

@@ -1,0 +1,4 @@
+pub mod Apart
+pub mod Bounds
+pub mod Distinctness
+pub mod Seen

@@ -1,0 +1,74 @@
+-- What a change to a directory speaks of, and the forms that its values have.
+use Rattle.std.specs.Prelude.{ℕ, ◌&&◌, Bool, true, nat_lt, nat_le, List, Option, None, Some}
+use Rattle.krb_names.specs.Pieces.{is_name}
+use Rattle.dir_records.specs.declared.change.Change.{Change}
+use Rattle.dir_records.specs.declared.change.Change.TheVariants.{AddAccount, RemoveAccount, SetMark, SetKey, AddSpn, RemoveSpn, AddClassic, RemoveClassic, AddResource, RemoveResource, AddGroup, RemoveGroup, SetLife, AddReach, RemoveReach}
+use Rattle.dir_records.specs.Forms.{is_account_name, is_key, is_positive, is_service}
+
+-- the name of the realm that is changed
+abbrev pub realm_of : Change → List ℕ
+realm_of (AddAccount realm name number key) = realm
+realm_of (RemoveAccount realm name) = realm
+realm_of (SetMark realm name mark on) = realm
+realm_of (SetKey realm name key) = realm
+realm_of (AddSpn realm name spn) = realm
+realm_of (RemoveSpn realm name spn) = realm
+realm_of (AddClassic realm name spn) = realm
+realm_of (RemoveClassic realm name spn) = realm
+realm_of (AddResource realm name sid) = realm
+realm_of (RemoveResource realm name sid) = realm
+realm_of (AddGroup realm name number) = realm
+realm_of (RemoveGroup realm name number) = realm
+realm_of (SetLife realm life) = realm
+realm_of (AddReach realm partner reach) = realm
+realm_of (RemoveReach realm partner reach) = realm
+
+-- the name of the account that is changed: one that is there, so a new one is none
+abbrev pub account_of : Change → Option (List ℕ)
+account_of (AddAccount realm name number key) = None
+account_of (RemoveAccount realm name) = Some name
+account_of (SetMark realm name mark on) = Some name
+account_of (SetKey realm name key) = Some name
+account_of (AddSpn realm name spn) = Some name
+account_of (RemoveSpn realm name spn) = Some name
+account_of (AddClassic realm name spn) = Some name
+account_of (RemoveClassic realm name spn) = Some name
+account_of (AddResource realm name sid) = Some name
+account_of (RemoveResource realm name sid) = Some name
+account_of (AddGroup realm name number) = Some name
+account_of (RemoveGroup realm name number) = Some name
+account_of (SetLife realm life) = None
+account_of (AddReach realm partner reach) = None
+account_of (RemoveReach realm partner reach) = None
+
+-- the partner of the trust that is changed
+abbrev pub partner_of : Change → Option (List ℕ)
+partner_of (AddReach realm partner reach) = Some partner
+partner_of (RemoveReach realm partner reach) = Some partner
+partner_of _ = None
+
+-- the test holds of what is there
+abbrev pub passes : {X : Type 0} → (X → Bool) → Option X → Bool
+passes test None = true
+passes test (Some x) = test x
+
+-- the forms of a new account, of a key, of a service, of a ticket's longest life (a second to a year), of a reached realm
+abbrev pub has_value_forms : Change → Bool
+has_value_forms (AddAccount realm name number key) = is_account_name name && is_positive number && is_key key
+has_value_forms (SetKey realm name key) = is_key key
+has_value_forms (AddSpn realm name spn) = is_service spn
+has_value_forms (RemoveSpn realm name spn) = is_service spn
+has_value_forms (AddClassic realm name spn) = is_service spn
+has_value_forms (RemoveClassic realm name spn) = is_service spn
+has_value_forms (SetLife realm life) = nat_lt 0 life && nat_le life 31536000
+has_value_forms (AddReach realm partner reach) = is_name reach
+has_value_forms (RemoveReach realm partner reach) = is_name reach
+has_value_forms _ = true
+
+-- the forms of the names that it speaks of, and of its values
+abbrev pub has_forms : Change → Bool
+has_forms change =
+    is_name (realm_of change)
+    && passes is_account_name (account_of change)
+    && passes is_name (partner_of change)
+    && has_value_forms change

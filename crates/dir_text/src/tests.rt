@@ -1,0 +1,3 @@
+//! Tables of directories and of change lines, a case a line.
+mod changes;
+mod directories;
