@@ -9,7 +9,7 @@ unfoldable pub product : ℕ → ℕ → ℕ → ℕ
 product zero a b = 0
 product (suc n) a b = bit_xor (a % 2 * b) (2 * product n (a / 2) b)
 
--- p, of degree below 8 + n, modulo x^8 + x^4 + x^3 + x + 1: while p has x^(7 + n), less x^(n - 1) times the modulus
+-- p, of degree below 8 + n, modulo x^8 + x^4 + x^3 + x + 1: where p has x^(7 + n), less x^(n - 1) times the modulus
 unfoldable pub remainder : ℕ → ℕ → ℕ
 remainder zero p = p
 remainder (suc n) p = remainder n (bit_xor p (bit_at p (8 + n) * (0x11b * 2 ^ n)))
@@ -31,7 +31,7 @@ first_or_zero test (x ∷ xs) = if test x then x else first_or_zero test xs
 unfoldable pub inverse : ℕ → ℕ
 inverse a = first_or_zero (λ b. times a b == 1) all_bytes
 
--- bit i of the affine map (5.1)
+-- bit i of the affine map (5.1.1)
 abbrev pub affine_bit : ℕ → ℕ → ℕ
 affine_bit b i = (bit_at b i + bit_at b ((i + 4) % 8) + bit_at b ((i + 5) % 8) + bit_at b ((i + 6) % 8) + bit_at b ((i + 7) % 8) + bit_at 0x63 i) % 2
 

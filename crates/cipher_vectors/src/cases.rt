@@ -1,11 +1,13 @@
 //! The cases.
 
-use crate::words::{bytes, etype, key, number};
+use crate::words::{bytes, etype, key, key_at, number};
 use aes_core::{KeySchedule, decrypt_block, encrypt_block};
 use krb_crypto::{
     cts_decrypt, cts_encrypt, derive, hmac_md5, hmac_sha1, mac, mac_ok, mac_zeroed, nfold,
     open_in_place, rc4_mac, seal, string_to_key,
 };
+use pac_buffers::PacView;
+use pac_sign::{SignFault, verify};
 use std::alloc::Global;
 
 /// What the library makes of a case, or nothing.
@@ -24,6 +26,7 @@ pub fn answer(alloc: Global, line: &str) -> Option<Vec<u8>> {
         "zeroed" => zeroed_sum(alloc, words),
         "rc4_mac" => rc4_sum(alloc, words),
         "string_to_key" => password_key(alloc, words),
+        "pac" => signed_pac(alloc, words),
         _ => None,
     }
 }
@@ -189,4 +192,24 @@ fn password_key(alloc: Global, words: &[&str]) -> Option<Vec<u8>> {
         .bytes()
         .to_vec(alloc)
         .ok()
+}
+
+// `pac ETYPE KEY ETYPE KEY PAC PART`: 00 where the signatures of the PAC are right under the service's key and the realm's, the
+// ticket signature over the part; else 01 for the server signature, 02 for that of the KDC, 03 for that of the ticket.
+fn signed_pac(alloc: Global, words: &[&str]) -> Option<Vec<u8>> {
+    let server = key_at(alloc, words, 1)?;
+    let realm = key_at(alloc, words, 3)?;
+    let pac = bytes(alloc, words, 5)?;
+    let part = bytes(alloc, words, 6)?;
+    if pac.len() > 131_072 {
+        return None;
+    }
+    let view = PacView::read(pac.as_slice()).ok()?;
+    let told = match verify(&view, &server, Some(&realm), Some(part.as_slice())) {
+        Ok(()) => 0u8,
+        Err(SignFault::Server) => 1,
+        Err(SignFault::Kdc) => 2,
+        Err(SignFault::Ticket) => 3,
+    };
+    [told].to_vec(alloc).ok()
 }

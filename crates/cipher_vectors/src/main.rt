@@ -1,4 +1,4 @@
-//! Answers cases of the ciphers, one a line, so that they can be compared with those of other
+//! Answers cases of the ciphers and of the signatures of PACs, one a line, so that they can be compared with those of other
 //! implementations. Bytes are hex, and `-` is none.
 #![tactic(auto)]
 

@@ -22,12 +22,17 @@ pub fn etype(words: &[&str], at: usize) -> Option<Etype> {
     Etype::from_number(words.get(at)?.parse::<i32>().ok()?)
 }
 
-/// The key of the first two words after the kind, its type and its bytes.
-pub fn key(alloc: Global, words: &[&str]) -> Option<Key> {
-    let etype = etype(words, 1)?;
-    let raw = bytes(alloc, words, 2)?;
+/// The key of two words, its type and its bytes.
+pub fn key_at(alloc: Global, words: &[&str], at: usize) -> Option<Key> {
+    let etype = etype(words, at)?;
+    let raw = bytes(alloc, words, at.saturating_add(1))?;
     if raw.len() != etype.key_length() {
         return None;
     }
     Some(Key::new(etype, raw.as_slice()))
+}
+
+/// The key of the first two words after the kind.
+pub fn key(alloc: Global, words: &[&str]) -> Option<Key> {
+    key_at(alloc, words, 1)
 }

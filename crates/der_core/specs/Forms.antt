@@ -74,7 +74,7 @@ bits = element_of 3 bit_strings
 abbrev pub octets : Codec (List ℕ)
 octets = element_of 4 bytes
 
--- GeneralString (tag 27), in UTF-8
+-- GeneralString (tag 27), in UTF-8 (own choice: RFC 4120, section 5.2.1, has IA5String's characters alone)
 abbrev pub text : Codec (List ℕ)
 text = element_of 0x1b texts
 

@@ -13,16 +13,14 @@ use Rattle.dir_records.specs.declared.records.RealmRec.{RealmRec}
 use Rattle.dir_records.specs.declared.records.SpentNumber.{SpentNumber}
 use Rattle.dir_records.specs.declared.refusal.DirCause.TheVariants.{Duplicate, SameKey, UnknownRef}
 use Rattle.dir_records.specs.declared.refusal.DirPlace.{DirPlace}
-use Rattle.dir_records.specs.Clashes.{◌or_earlier◌, duplicate, entry_repeat, in_realms, is_before, overlaps, realm_names, realm_sids, same_key, unknown_reference}
+use Rattle.dir_records.specs.Clashes.{◌or_earlier◌, duplicate, entry_repeat, in_realms, overlaps, realm_names, realm_sids, same_key, unknown_reference}
 use Rattle.dir_records.specs.DirectoryValue.{DirectoryValue}
 use Rattle.dir_records.specs.Marks.{account_marks, marks_of, name_marks, number_marks, partner_marks, spent_number_marks, spn_marks}
 use Rattle.dir_records.specs.Repeats.{first_repeat}
 use Rattle.dir_records.specs.WellFormed.{is_well_formed, refused_for}
+use Rattle.dir_records.proofs.Apart.{marked, neither_earlier}
 use Rattle.dir_records.proofs.Bounds.{clash_none, neither}
 use Rattle.dir_records.proofs.Distinctness.{no_repeat}
-
-abbrev marked : {X : Type 0} → List (DirPlace × X) → List X
-marked marks = map (λ mark. mark.1) marks
 
 numbers_of : (at number : ℕ) (accounts : List Account) → marked (account_marks (λ account. account.number) at number accounts) ≡ map (λ account. account.number) accounts
 numbers_of at number [] = refl
@@ -31,15 +29,6 @@ numbers_of at number (account ∷ accounts) = ap (λ rest. account.number ∷ re
 sids_of : (at : ℕ) (realms : List RealmRec) → marked (realm_sids at realms) ≡ map (λ realm. realm.sid) realms
 sids_of at [] = refl
 sids_of at (realm ∷ realms) = ap (λ rest. realm.sid ∷ rest) (sids_of (at + 1) realms)
-
-neither_earlier : (a b : Option DirPlace) → (a or_earlier b) ≡ None → (a ≡ None) × (b ≡ None)
-neither_earlier None b h = (refl, h)
-neither_earlier (Some place) None h = absurd (cc)
-neither_earlier (Some place) (Some other) h = absurd (some (is_before other place) h)
-  where
-    some : (b : Bool) → (if b then Some other else Some place) ≡ None → ⊥
-    some true h = cc
-    some false h = cc
 
 no_duplicate : (found : Option DirPlace) → refused_for Duplicate found ≡ None → found ≡ None
 no_duplicate None h = refl

@@ -8,7 +8,7 @@ ghost use Rattle.kdc_prelude.specs.Verdicts.{first_failing};
 ghost use Rattle.dir_core.specs.Changed.{changed, own_rows};
 ghost use Rattle.dir_core.specs.Edits.{changed_account, changed_trust, edited};
 ghost use Rattle.dir_core.specs.Lookups.{account_at, account_named, account_of, account_serving, has_sid, has_spn, is_reached, next_hop, place_of, realm_named, sid_place, spn_place};
-ghost use Rattle.dir_records.specs.WellFormed.{directory_of, no_memory, is_well_formed};
+ghost use Rattle.dir_records.specs.WellFormed.{directory_of, first_refusal, is_well_formed, no_memory, unless_refused};
 
 use crate::allowed::{find_trust, is_account_found, is_trust_found};
 use crate::lookups::{
@@ -54,11 +54,24 @@ impl Directory {
     pub fn new(alloc: Global, realms: Vec<RealmRec>) -> Result<Directory, DirRefusal>
         ensures { Answers no_memory result (directory_of realms.items) }
     {
-        let contents = Contents {
-            realms: Items::from_vec(realms),
-            spent_keys: Items::new(alloc),
-            spent_numbers: Items::new(alloc),
-        };
+        Directory::of_contents(
+            alloc,
+            Contents {
+                realms: Items::from_vec(realms),
+                spent_keys: Items::new(alloc),
+                spent_numbers: Items::new(alloc),
+            },
+        )
+    }
+
+    /// The directory of these contents, with keys and numbers that are spent already, as after changes that were made
+    /// before. The contents are dropped where they make none.
+    ///
+    /// # Errors
+    /// As `new`; of the limits, that of the spent keys and the spent numbers is told last, `TooMany` at `Whole`.
+    pub fn of_contents(alloc: Global, contents: Contents) -> Result<Directory, DirRefusal>
+        ensures { Answers no_memory result (unless_refused (first_refusal contents) contents) }
+    {
         match find_refusal(alloc, &contents)? {
             None => Ok(Directory { alloc, contents }),
             Some(refusal) => Err(refusal),

@@ -15,8 +15,8 @@ mod taken;
 mod tests;
 
 pub use dir_records::{
-    Account, Accounts, Change, DirCause, DirPlace, DirRefusal, KeyRec, Mark, RealmRec, Trust,
-    Trusts, is_account_name, is_service,
+    Account, Accounts, Change, Contents, DirCause, DirPlace, DirRefusal, KeyRec, Mark, RealmRec,
+    SpentNumber, Trust, Trusts, is_account_name, is_service,
 };
 pub use directory::Directory;
 pub use lookups::has_text;

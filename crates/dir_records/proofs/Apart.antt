@@ -20,7 +20,8 @@ use Rattle.dir_records.proofs.Bounds.{clash_none, neither}
 use Rattle.dir_records.specs.Repeats.{first_repeat}
 use Rattle.dir_records.proofs.Distinctness.{no_repeat}
 
-abbrev marked : {X : Type 0} → List (DirPlace × X) → List X
+-- what the marks are, without their places
+abbrev pub marked : {X : Type 0} → List (DirPlace × X) → List X
 marked marks = map (λ mark. mark.1) marks
 
 of_accounts : {X : Type 0} (mark : Account → X) (at number : ℕ) (accounts : List Account) → marked (account_marks mark at number accounts) ≡ map mark accounts
@@ -50,7 +51,7 @@ of_names at (realm ∷ realms) = ap (λ rest. realm.name ∷ rest) (of_names (at
 apart : (marks : List (DirPlace × List ℕ)) (values : List (List ℕ)) → marked marks ≡ values → first_repeat same_text marks ≡ None → all_distinct same_text values ≡ true
 apart marks values e h = ap (all_distinct same_text) (sym e) ∙ sym (no_repeat same_text nat_list_eq_equiv.symm marks) ∙ ap is_none h
 
-neither_earlier : (a b : Option DirPlace) → (a or_earlier b) ≡ None → (a ≡ None) × (b ≡ None)
+pub neither_earlier : (a b : Option DirPlace) → (a or_earlier b) ≡ None → (a ≡ None) × (b ≡ None)
 neither_earlier None b h = (refl, h)
 neither_earlier (Some place) None h = absurd (cc)
 neither_earlier (Some place) (Some other) h = absurd (some (is_before other place) h)

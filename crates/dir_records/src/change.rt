@@ -14,9 +14,13 @@ use std::alloc::{AllocError, Global};
 /// A mark of an account, which is on or off.
 #[derive(Clone, Copy, Debug, PartialEq, Eq)]
 pub enum Mark {
+    /// The account gets no ticket, and none is given for it.
     Disabled,
+    /// The account is sensitive: no service may delegate in its name.
     NotDelegated,
+    /// The account's service gets forwardable tickets by S4U2self.
     TrustedToAuth,
+    /// The account has to pre-authenticate.
     Preauth,
 }
 
@@ -33,21 +37,27 @@ pub enum Change {
     SetMark(Text, Text, Mark, bool),
     /// The account's key and its version. The key that it had is spent, unless it is the same.
     SetKey(Text, Text, KeyRec),
+    /// One more service principal name of the account, the last of its list.
     AddSpn(Text, Text, Spn),
+    /// A service principal name of the account goes.
     RemoveSpn(Text, Text, Spn),
-    /// A service to which the account may delegate.
+    /// One more service to which the account may delegate.
     AddClassic(Text, Text, Spn),
+    /// A service to which the account may delegate goes.
     RemoveClassic(Text, Text, Spn),
-    /// Who may delegate to the account.
+    /// One more SID of those who may delegate to the account.
     AddResource(Text, Text, Sid),
+    /// A SID of those who may delegate to the account goes.
     RemoveResource(Text, Text, Sid),
-    /// A group that the account is a member of.
+    /// One more group that the account is a member of.
     AddGroup(Text, Text, u32),
+    /// A group that the account is a member of goes.
     RemoveGroup(Text, Text, u32),
     /// How long a ticket of the realm may last, in seconds.
     SetLife(Text, u64),
-    /// A realm that the trust with a partner reaches.
+    /// One more realm that the trust with a partner reaches: the third text is its name.
     AddReach(Text, Text, Text),
+    /// A realm that the trust with a partner reaches goes.
     RemoveReach(Text, Text, Text),
 }
 

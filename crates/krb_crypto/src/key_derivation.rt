@@ -14,7 +14,7 @@ use krb_names::{Etype, Key};
 /// encrypted, 99 for checksums.
 pub fn derive(base: &Key, usage: u32, tail: u8) -> Key
     ensures value { result ≡ derived base.now usage tail }
-    ensures exact { IsKey result }
+    ensures padded { IsKey result }
 {
     let mut constant = [tail; 5];
     constant[..4].copy_from_slice(&usage.to_be_bytes());
@@ -26,7 +26,7 @@ pub fn derive_by(base: &Key, constant: &[u8]) -> Key
     requires some { 0 < length constant.now }
     requires few { length constant.now ≤ 64 }
     ensures value { result ≡ dk base.now constant.now }
-    ensures exact { IsKey result }
+    ensures padded { IsKey result }
 {
     let schedule = schedule_of(base);
     let mut first = [0; 16];
@@ -55,7 +55,7 @@ fn joined(first: &[u8; 16], second: &[u8; 16]) -> [u8; 32]
 // The key of 128 bits of this block.
 fn short_key(block: &[u8; 16]) -> Key
     ensures value { result ≡ key_of Etype.Aes128 block.now }
-    ensures exact { IsKey result }
+    ensures padded { IsKey result }
 {
     Key::new(Etype::Aes128, block)
 }
@@ -63,7 +63,7 @@ fn short_key(block: &[u8; 16]) -> Key
 // The key of 256 bits of these blocks.
 fn long_key(first: &[u8; 16], second: &[u8; 16]) -> Key
     ensures value { result ≡ key_of Etype.Aes256 (first.now ++ second.now) }
-    ensures exact { IsKey result }
+    ensures padded { IsKey result }
 {
     Key::new(Etype::Aes256, &joined(first, second))
 }

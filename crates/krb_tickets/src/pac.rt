@@ -179,7 +179,7 @@ fn content_field<'a>(from: &mut Reader<'a>) -> Result<&'a [u8], DerRefusal>
 }
 
 /// The DER of the part that the ticket signature is over (MS-PAC, section 2.8.3): with one zero byte for the ad-data of its PAC.
-/// The part's own DER where `pac_of` is None.
+/// The part's own DER where `pac_of` is None. The part's own DER has fewer than 2^27 bytes.
 pub fn part_without_pac(alloc: Global, part: &EncTicketPart) -> Result<Bytes, AllocError>
     requires fits { enc_ticket_part.Fits part.now }
     requires short { length (enc_ticket_part.spelling part.now) < 2 ^ 27 }

@@ -168,7 +168,7 @@ fn lines_of(rt: &(impl Abort + AllocGlobal), shape: &str) -> Result<String, Allo
 }
 
 /// What is answered to a batch.
-fn answer(
+pub(super) fn answer(
     rt: &(impl Abort + AllocGlobal),
     dir: &mut Directory,
     lines: &[u8],

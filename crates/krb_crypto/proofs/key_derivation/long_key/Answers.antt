@@ -6,7 +6,7 @@ use Rattle.krb_crypto.proofs.ByteSums.{bytes_below}
 use Rattle.krb_crypto.proofs.DerivedKeys.{IsKey-long}
 use Rattle.krb_crypto.proofs.key_derivation.long_key.Goals as goal
 
-pub returns-clause-exact : goal.returns-clause-exact
-returns-clause-exact c =
+pub returns-clause-padded : goal.returns-clause-padded
+returns-clause-padded c =
     subst IsKey (sym (c.new.ensures ∙ ap (key_of Aes256) c.joined.ensures))
     (IsKey-long c.args.first.now c.args.second.now c.told-first c.told-second (bytes_below c.args.first.now c.fits-first) (bytes_below c.args.second.now c.fits-second))

@@ -4,5 +4,5 @@ use Rattle.krb_crypto.proofs.ByteSums.{bytes_below}
 use Rattle.krb_crypto.proofs.DerivedKeys.{IsKey-short}
 use Rattle.krb_crypto.proofs.key_derivation.short_key.Goals as goal
 
-pub returns-clause-exact : goal.returns-clause-exact
-returns-clause-exact c = subst IsKey (sym c.new.ensures) (IsKey-short c.args.block.now c.told-block (bytes_below c.args.block.now c.fits-block))
+pub returns-clause-padded : goal.returns-clause-padded
+returns-clause-padded c = subst IsKey (sym c.new.ensures) (IsKey-short c.args.block.now c.told-block (bytes_below c.args.block.now c.fits-block))

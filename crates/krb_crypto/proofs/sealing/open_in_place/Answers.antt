@@ -19,7 +19,7 @@ is_key key found usage e h = subst IsKey e h
 pub returns-then-cipher-lt28-clause-cause : goal.returns-then-cipher-lt28-clause-cause
 returns-then-cipher-lt28-clause-cause c =
     λ message o. opens_long c.args.key.now c.args.usage c.args.cipher.now message
-    (is_key c.args.key.now c.derive-encryption_key.result c.args.usage c.derive-encryption_key.ensures.value c.derive-encryption_key.ensures.exact) c.if-cipher-lt28.true o
+    (is_key c.args.key.now c.derive-encryption_key.result c.args.usage c.derive-encryption_key.ensures.value c.derive-encryption_key.ensures.padded) c.if-cipher-lt28.true o
 
 -- what stands in the buffer once its front is decrypted
 decrypted : (key : Key) (usage : ℕ) (b text : List ℕ) (found : Key) (schedule : List (List ℕ)) → found ≡ encryption_key key usage → schedule ≡ schedule_of found
@@ -45,7 +45,7 @@ returns-then-is_same_sum-clause-found c =
     let rest : List ℕ = drop n b in
     let long : 28 ≤ length b = c.if-cipher-lt28.false in
     let lt : length text ≡ n = omega (arith, length-take-le n b (omega arith)) in
-    let hk : IsKey (encryption_key key c.args.usage) = is_key key c.derive-encryption_key.result c.args.usage c.derive-encryption_key.ensures.value c.derive-encryption_key.ensures.exact in
+    let hk : IsKey (encryption_key key c.args.usage) = is_key key c.derive-encryption_key.result c.args.usage c.derive-encryption_key.ensures.value c.derive-encryption_key.ensures.padded in
     let hb : AreBytes b = c.sum_at-shown.ensures.exact in
     let et = decrypted key c.args.usage b text c.derive-encryption_key.result c.schedule_of-schedule.result c.derive-encryption_key.ensures.value c.schedule_of-schedule.ensures c.decrypt_text.ensures in
     let sum = summed key c.args.usage n text rest c.short_hmac-sum.result c.derive.result c.derive.ensures.value lt c.short_hmac-sum.ensures in
@@ -60,7 +60,7 @@ returns-clause-cause c = λ message o.
     let n : ℕ = length b - 12 in
     let text : List ℕ = c.decrypt_text.new.bytes in
     let lt : length text ≡ n = omega (arith, length-take-le n b (omega arith)) in
-    let hk : IsKey (encryption_key key c.args.usage) = is_key key c.derive-encryption_key.result c.args.usage c.derive-encryption_key.ensures.value c.derive-encryption_key.ensures.exact in
+    let hk : IsKey (encryption_key key c.args.usage) = is_key key c.derive-encryption_key.result c.args.usage c.derive-encryption_key.ensures.value c.derive-encryption_key.ensures.padded in
     let et = decrypted key c.args.usage b text c.derive-encryption_key.result c.schedule_of-schedule.result c.derive-encryption_key.ensures.value c.schedule_of-schedule.ensures c.decrypt_text.ensures in
     let sum = summed key c.args.usage n text (drop n b) c.short_hmac-sum.result c.derive.result c.derive.ensures.value lt c.short_hmac-sum.ensures in
     let same : c.sum_at-shown.result ≡ c.short_hmac-sum.result =
@@ -76,7 +76,7 @@ returns-clause-unchanged c =
     let text : List ℕ = c.decrypt_text.new.bytes in
     let rest : List ℕ = drop n b in
     let lt : length text ≡ n = omega (arith, length-take-le n b (omega arith)) in
-    let hk : IsKey (encryption_key key c.args.usage) = is_key key c.derive-encryption_key.result c.args.usage c.derive-encryption_key.ensures.value c.derive-encryption_key.ensures.exact in
+    let hk : IsKey (encryption_key key c.args.usage) = is_key key c.derive-encryption_key.result c.args.usage c.derive-encryption_key.ensures.value c.derive-encryption_key.ensures.padded in
     let et = decrypted key c.args.usage b text c.derive-encryption_key.result c.schedule_of-schedule.result c.derive-encryption_key.ensures.value c.schedule_of-schedule.ensures c.decrypt_text.ensures in
     let again : schedule_of c.derive-encryption_key.result ≡ schedule_of (encryption_key key c.args.usage) = ap schedule_of c.derive-encryption_key.ensures.value in
     (λ i. c.encrypt_text.ensures i ++ drop_at text rest n lt i)
