@@ -13,8 +13,8 @@ same() { # what, printed, wanted
 same "one realm" "$("$program" ask examples/one-realm.json < examples/questions.txt)" "$(cat examples/answers.txt)"
 same "two realms" "$("$program" ask examples/two-realms.json < examples/questions.txt)" "$(cat examples/answers.txt)"
 same "the partner's realm" "$("$program" ask examples/two-realms.json < examples/partner-questions.txt)" "$(cat examples/partner-answers.txt)"
-ticket=61373035a003020105a1031b0152a2163014a003020102a10d300b1b04687474701b03776562a311300fa003020112a103020101a203040100
-same "a ticket" "$(echo $ticket | "$program" explain examples/one-realm.json)" "ticket http/web@R etype 18 kvno 1"
+same "a ticket" "$("$program" explain examples/one-realm.json < examples/ticket.txt)" "$(cat examples/ticket-in-words.txt)"
+same "a ticket of nobody" "$(echo 61373035a003020105a1031b0152a2163014a003020102a10d300b1b04687474701b03776562a311300fa003020112a103020101a203040100 | "$program" explain examples/one-realm.json)" "refused P2"
 same "a password" "$("$program" derive 17 1 ATHENA.MIT.EDUraeburn password)" 42263c6e89f4fc28b8df68ee09799f15
 [ $status -eq 0 ] && echo "examples: all print what the README shows"
 exit $status

@@ -7,7 +7,7 @@ use Rattle.dir_records.specs.DirectoryValue.{DirectoryValue}
 use Rattle.dir_core.specs.RuleNames.{name_of}
 use Rattle.dir_records.specs.declared.refusal.DirRefusal.{DirRefusal}
 use Rattle.dir_text.specs.DirectoryText.{directory_of}
-use Rattle.ticket_explain.specs.Explained.{explained}
+use Rattle.ticket_explain.specs.Explained.{denied, explained}
 use Rattle.ticket_explain.specs.declared.fault.ExplainFault.{ExplainFault}
 use Rattle.ticket_explain.specs.declared.fault.ExplainFault.TheVariants.{Deny, NoMemory}
 use Rattle.kdc_cli.specs.Derived.{key_line}
@@ -28,7 +28,7 @@ told (Err NoMemory) = record { status = 3; text = [] }
 -- the answers to the lines, or what is told of the ticket
 abbrev pub with_task : Task → DirectoryValue → List ℕ → Outcome
 with_task Ask dir input = answered (questions dir input)
-with_task Explain dir input = told (explained input)
+with_task Explain dir input = told (denied (explained dir input))
 
 -- an input has at most 1,048,576 bytes
 abbrev pub with_input : Task → DirectoryValue → List ℕ → Outcome

@@ -202,15 +202,14 @@ fn a_key_is_derived(rt: HostRuntime) -> Result<(), Fail> {
     Ok(())
 }
 
-/// A ticket for http/web of R, the same without its last byte, no hex, and two lines.
+/// A ticket for http/web of R, which nobody has, the same without its last byte, no hex, and two lines.
 #[test]
-fn a_ticket_is_explained_or_refused(rt: HostRuntime) -> Result<(), Fail> {
+fn a_ticket_is_refused(rt: HostRuntime) -> Result<(), Fail> {
     let ticket =
         "61373035a003020105a1031b0152a2163014a003020102a10d300b1b04687474701b03776562a311300fa003020112a103020101a203040100";
-    let told = "ticket http/web@R etype 18 kvno 1\n";
     let rows = [
-        ("TICKET", 0, told),
-        ("TICKET\n", 0, told),
+        ("TICKET", 10, "refused P2\n"),
+        ("TICKET\n", 10, "refused P2\n"),
         ("TICKET\n\n", 10, "refused U3\n"),
         ("TICKET00", 10, "refused U3\n"),
         ("zz", 10, "refused U3\n"),

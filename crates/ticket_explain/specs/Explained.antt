@@ -1,41 +1,60 @@
--- What is printed of a ticket (own choice).
-use Rattle.std.specs.Prelude.{ℕ, List, ◌∷◌, ◌++◌, codes, decimal, Option, None, Some, Result, Ok, Err}
-use Rattle.std.specs.Fmt.{signed_decimal}
-use Rattle.std.specs.List.{join_with_byte}
+-- What is printed of a ticket, or the rule that refuses it (own choice).
+use Rattle.std.specs.Prelude.{ℕ, List, ◌++◌, Result, Ok, Err}
 use Rattle.hex.specs.Hex.{decode_of}
 use Rattle.hex.specs.declared.error.FromHexError.{FromHexError}
+use Rattle.kdc_prelude.specs.Answers.{or_fault}
 use Rattle.kdc_prelude.specs.Lines.{without_last_newline}
+use Rattle.kdc_prelude.specs.Results.{◌>>=◌}
 use Rattle.der_core.specs.Codec.{whole}
 use Rattle.der_core.specs.declared.refusal.DerRefusal.{DerRefusal}
-use Rattle.dir_core.specs.declared.rule.Rule.TheVariants.{U3}
-use Rattle.krb_names.specs.declared.principal.Principal.{Principal}
+use Rattle.dir_core.specs.declared.rule.Rule.{Rule}
+use Rattle.dir_core.specs.declared.rule.Rule.TheVariants.{P2, U3}
+use Rattle.dir_records.specs.DirectoryValue.{DirectoryValue}
 use Rattle.krb_tickets.specs.declared.ticket.Ticket.{Ticket}
 use Rattle.krb_tickets.specs.Ticket.{ticket}
+use Rattle.ticket_records.specs.declared.ticket_rec.TicketRec.{TicketRec}
+use Rattle.ticket_codec.specs.declared.opening.Opened.{Opened}
+use Rattle.ticket_codec.specs.declared.role.Role.TheVariants.{CrossEvidence}
+use Rattle.ticket_codec.specs.Opening.{opened_by}
+use Rattle.ticket_codec.specs.Presented.{presented}
 use Rattle.ticket_explain.specs.declared.fault.ExplainFault.{ExplainFault}
 use Rattle.ticket_explain.specs.declared.fault.ExplainFault.TheVariants.{Deny}
+use Rattle.ticket_explain.specs.declared.holders.Held.{Held}
+use Rattle.ticket_explain.specs.Holders.{held}
+use Rattle.ticket_explain.specs.Lines.{holder_line, record_lines, ticket_line}
 
--- the parts joined by `/`, then `@`, then the realm
-abbrev pub name_text : Principal → List ℕ
-name_text p = join_with_byte 47 p.parts ++ 64 ∷ p.realm
+-- the rule that refuses, as a fault
+abbrev pub denied : {X : Type 0} → Result X Rule → Result X ExplainFault
+denied (Ok x) = Ok x
+denied (Err rule) = Err (Deny rule)
 
-abbrev pub kvno_text : Option ℕ → List ℕ
-kvno_text None = codes "-"
-kvno_text (Some kvno) = decimal kvno
+-- all that is told of a ticket with this holder and this record
+unfoldable pub lines : Ticket → List ℕ → TicketRec → List ℕ
+lines t holder rec = ticket_line t ++ holder_line holder ++ record_lines rec
 
--- `ticket NAME@REALM etype E kvno V`
-abbrev pub ticket_line : Ticket → List ℕ
-ticket_line t = codes "ticket " ++ name_text t.sname ++ codes " etype " ++ signed_decimal t.sealed.etype ++ codes " kvno " ++ kvno_text t.sealed.kvno ++ codes "\n"
+-- what is told of a ticket that was opened; P5 where its PAC does not read or a signature is wrong
+unfoldable pub told_opened : DirectoryValue → ℕ → Ticket → List ℕ → Opened → Result (List ℕ) Rule
+told_opened dir at t holder opened = presented dir at CrossEvidence opened >>= λ certified. Ok (lines t holder certified.rec)
+
+-- what is told of a ticket whose holder is known; P3 where the key's version or type is not the ticket's, P4 where the ticket
+-- does not open or what was sealed does not read
+unfoldable pub told_of : DirectoryValue → Ticket → Held → Result (List ℕ) Rule
+told_of dir t h = opened_by CrossEvidence t h.holding >>= told_opened dir h.realm t h.text
+
+-- what is told of a ticket; P2 where its realm and name give no holder of a key
+abbrev pub explained_ticket : DirectoryValue → Ticket → Result (List ℕ) Rule
+explained_ticket dir t = or_fault P2 (held dir t) >>= told_of dir t
 
 -- no ticket is refused by U3
-abbrev pub line_of : Result Ticket DerRefusal → Result (List ℕ) ExplainFault
-line_of (Ok t) = Ok (ticket_line t)
-line_of (Err refusal) = Err (Deny U3)
+abbrev pub explained_reading : DirectoryValue → Result Ticket DerRefusal → Result (List ℕ) Rule
+explained_reading dir (Ok t) = explained_ticket dir t
+explained_reading dir (Err refusal) = Err U3
 
 -- no hex too
-abbrev pub explained_bytes : Result (List ℕ) FromHexError → Result (List ℕ) ExplainFault
-explained_bytes (Ok bytes) = line_of (whole ticket bytes)
-explained_bytes (Err fault) = Err (Deny U3)
+abbrev pub explained_bytes : DirectoryValue → Result (List ℕ) FromHexError → Result (List ℕ) Rule
+explained_bytes dir (Ok bytes) = explained_reading dir (whole ticket bytes)
+explained_bytes dir (Err fault) = Err U3
 
 -- of one line of hex
-abbrev pub explained : List ℕ → Result (List ℕ) ExplainFault
-explained input = explained_bytes (decode_of (without_last_newline input))
+abbrev pub explained : DirectoryValue → List ℕ → Result (List ℕ) Rule
+explained dir input = explained_bytes dir (decode_of (without_last_newline input))

@@ -1,1 +1,5 @@
+pub mod Words
+pub mod Lines
+pub mod Faults
+pub mod Holders
 pub mod Explained

@@ -3,10 +3,9 @@
 
 mod explanation;
 mod fault;
-mod line;
+mod holders;
+mod lines;
+mod words;
 
 pub use explanation::explain;
 pub use fault::ExplainFault;
-
-#[cfg(test)]
-mod tests;

@@ -1,0 +1,12 @@
+//! What the name of a server means to a realm, and what that realm aims at for it (RFC 4120, sections 6.2, 7.3 and 3.3.3).
+#![tactic(auto)]
+
+mod aim;
+mod laws;
+mod meaning;
+mod services;
+#[cfg(test)]
+mod tests;
+
+pub use aim::{Aim, resolve, resolve_account};
+pub use laws::names_keep_laws;

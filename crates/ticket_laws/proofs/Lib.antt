@@ -1,0 +1,9 @@
+pub mod Sizes
+pub mod Fields
+pub mod Texts
+pub mod Times
+pub mod Bytes
+pub mod Values
+pub mod LonePacs
+pub mod Parts
+pub mod Tickets

@@ -1,0 +1,3 @@
+pub mod OnlyPac
+pub mod Writable
+pub mod Laws
