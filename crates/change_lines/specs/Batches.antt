@@ -26,11 +26,11 @@ lines_after n [] dir = Ok dir
 lines_after n (line ∷ lines) dir = at_line n (line_after dir line) >>= lines_after (n + 1) lines
 
 -- the directory after the lines of a batch, or the first refusal; lines are counted from 1, empty ones too
-abbrev pub batch_outcome : DirectoryValue → List ℕ → Result DirectoryValue DirRefusal
+unfoldable pub batch_outcome : DirectoryValue → List ℕ → Result DirectoryValue DirRefusal
 batch_outcome dir batch = lines_after 1 (lines_of batch) dir
 
 -- the directory after a batch: as it was, where the batch is refused
-abbrev pub after : DirectoryValue → List ℕ → DirectoryValue
+unfoldable pub after : DirectoryValue → List ℕ → DirectoryValue
 after dir batch = result_unwrap_or (batch_outcome dir batch) dir
 
 -- what a call answers that changes a directory, where want of memory is left free: the directory is the outcome, or the

@@ -15,6 +15,7 @@ use std::alloc::{AllocError, Global};
 /// # Errors
 /// The cause of the first line that is refused, with its number from 1: `BadField` where it says no change, else what
 /// `Directory::change` refuses. `NoMemory` at the whole. An `Err` changes nothing.
+#[tactic(auto, unfolding(crate::specs::Batches::after, crate::specs::Batches::batch_outcome))]
 pub fn apply_changes(alloc: Global, dir: &mut Directory, lines: &[u8]) -> Result<(), DirRefusal>
     requires { length lines.now < 2 ^ 32 }
     ensures outcome { Becomes no_memory result dir.new (batch_outcome dir.old lines.now) }

@@ -3,9 +3,11 @@
 
 mod batch;
 mod fields;
+mod laws;
 mod line;
 mod lines;
 
 pub use batch::apply_changes;
+pub use laws::batches_keep_directories;
 pub use line::read_change;
 pub use lines::split_lines;

@@ -45,3 +45,8 @@ bits_fit content n fits d =
 pub bits_no_longer : (content : List ℕ) (n : ℕ) → IsBits content n → length (bit_string n) ≤ 3 * length content + 2
 unfolding bit_string
 bits_no_longer content n d = omega (arith, ap length d.whole)
+
+-- 32 bits are written in at most four bytes more
+pub bits_near : (content : List ℕ) (n : ℕ) → IsBits content n → length (bit_string n) ≤ length content + 4
+unfolding bit_string
+bits_near content n d = omega (arith, ap length d.whole)

@@ -54,14 +54,14 @@ int_within_lawful low high = element_of_lawful 2 (within low high) (within_lawfu
 pub int32_lawful : IsCodec int32
 int32_lawful = int_within_lawful (negsuc 2147483647) (pos 2147483647)
 
-is_natural : (n : ℤ) → is_between (pos 0) (pos 4294967295) n ≡ true → pos (natural n) ≡ n
+pub is_natural : (n : ℤ) → is_between (pos 0) (pos 4294967295) n ≡ true → pos (natural n) ≡ n
 is_natural (pos n) h = refl
 is_natural (negsuc n) h = absurd cc
 
 pub uint32_lawful : IsCodec uint32
 uint32_lawful = mapped_lawful _ natural pos (λ n fits. is_natural n fits.1) (int_within_lawful (pos 0) (pos 4294967295))
 
-only_between : (n m : ℤ) → is_between n n m ≡ true → n ≡ m
+pub only_between : (n m : ℤ) → is_between n n m ≡ true → n ≡ m
 only_between n m h = grind (arith, ints, h)
 
 pub number_is_lawful : (n : ℤ) → IsCodec (number_is n)

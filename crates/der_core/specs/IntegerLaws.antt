@@ -139,7 +139,9 @@ pub integer_fits : (content : List ℕ) (n : ℤ) → IsBytes content → IsInte
 integer_fits content n fits d =
     subst (λ (m : ℤ). FitsSigned w64 m) d.value (sfits_to_z {w = w64} {n = from_be_bytes w64 (extended content)} (Fits-of_lt (below_64 (extended content) (IsBytes-extended content fits))))
 
+-- an integer has one content
+pub integer_one : (content : List ℕ) (n : ℤ) → IsBytes content → IsInteger content n → integer n ≡ content
+integer_one content n fits d = ap integer (sym d.value) ∙ of_shortest content d.few fits d.some ∙ d.short
+
 pub integer_no_longer : (content : List ℕ) (n : ℤ) → IsBytes content → IsInteger content n → length (integer n) ≤ 3 * length content + 2
-integer_no_longer content n fits d =
-    let same : integer n ≡ content = ap integer (sym d.value) ∙ of_shortest content d.few fits d.some ∙ d.short in
-    omega (arith, ap length same)
+integer_no_longer content n fits d = omega (arith, ap length (integer_one content n fits d))

@@ -142,3 +142,11 @@ length_size n =
 -- a length that is at most three times as large has a header at most three times as long
 pub size_no_longer : (n m : ℕ) → m ≤ 3 * n + 2 → length (size m) ≤ 3 * length (size n)
 size_no_longer n m le = grind (arith, nat_tests, length_size n, length_size m)
+
+-- a length that is no larger has a header that is no longer
+pub size_le : (n m : ℕ) → m ≤ n → length (size m) ≤ length (size n)
+size_le n m le = grind (arith, nat_tests, length_size n, length_size m)
+
+-- a length that is little larger has a header that is at most a byte longer
+pub size_near : (n m : ℕ) → m ≤ n + 100 → length (size m) ≤ length (size n) + 1
+size_near n m le = grind (arith, nat_tests, length_size n, length_size m)

@@ -66,7 +66,7 @@ is_over {X} c front count i start here total le some so_far =
     sym so_far ∙ one
 
 -- each part is no longer than the whole
-pub part_le : {X : Type 0} (f : X → List ℕ) (xs : List X) (i : ℕ) (d : X) → i < length xs → length (f (get_or xs i d)) ≤ length (flat_map f xs)
+pub part_le : {X Y : Type 0} (f : X → List Y) (xs : List X) (i : ℕ) (d : X) → i < length xs → length (f (get_or xs i d)) ≤ length (flat_map f xs)
 part_le f [] i d lt = absurd (omega arith)
 part_le f (x ∷ xs) zero d lt = omega (arith, ap length (flat_map-cons f x xs), length-append (f x) (flat_map f xs))
 part_le f (x ∷ xs) (suc i) d lt = let rest = part_le f xs i d (omega arith) in omega (arith, ap length (flat_map-cons f x xs), length-append (f x) (flat_map f xs), rest)

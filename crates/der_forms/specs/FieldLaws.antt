@@ -29,7 +29,7 @@ starts : (tag : ℕ) (content rest bytes : List ℕ) → bytes ≡ element tag c
 starts tag content rest bytes e = subst (λ (b : List ℕ). IsFrom tag b) (sym e) (omega arith)
 
 -- both parts of bytes are bytes
-parts_are_bytes : (bytes front rest : List ℕ) → IsBytes bytes → bytes ≡ front ++ rest → IsBytes front × IsBytes rest
+pub parts_are_bytes : (bytes front rest : List ℕ) → IsBytes bytes → bytes ≡ front ++ rest → IsBytes front × IsBytes rest
 parts_are_bytes bytes front rest fits whole =
     let all : IsBytes (front ++ rest) = subst IsBytes whole fits in
     (IsBytes-front front rest all, IsBytes-rest front rest all)

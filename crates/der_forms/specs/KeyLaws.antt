@@ -15,7 +15,7 @@ use Rattle.der_forms.specs.Laws.{AreFields}
 use Rattle.der_forms.specs.FieldLaws.{depending_lawful, field_lawful, end_lawful, made_lawful, sequence_lawful}
 use Rattle.der_forms.specs.Keys as form
 
-etype_again : (n : ℤ) → is_between (pos 17) (pos 18) n ≡ true → pos (etype_number (form.etype_of n)) ≡ n
+pub etype_again : (n : ℤ) → is_between (pos 17) (pos 18) n ≡ true → pos (etype_number (form.etype_of n)) ≡ n
 etype_again n h = grind (arith, ints, nat_tests, h)
 
 pub etype_lawful : IsCodec form.etype
@@ -24,7 +24,7 @@ etype_lawful = mapped_lawful _ _ _ (λ n fits. etype_again n fits.1) (int_within
 pub key_octets_lawful : (e : Etype) → IsCodec (form.key_octets e)
 key_octets_lawful e = element_of_lawful 4 _ (such_lawful _ LengthForm _ bytes_lawful)
 
-key_again : (x : form.Parts) → form.parts.content.Fits x → form.parts_of (form.make x) ≡ x
+pub key_again : (x : form.Parts) → form.parts.content.Fits x → form.parts_of (form.make x) ≡ x
 key_again x fits =
     let octets : List ℕ = x.1.0 in
     let len : length octets ≡ key_length x.0 = eqb-true _ _ fits.1.0.1 in

@@ -11,3 +11,11 @@ pub mod Keys
 pub mod KeyLaws
 pub mod Times
 pub mod TimeLaws
+pub mod Kept
+pub mod KeptLaws
+pub mod Choices
+pub mod ChoiceLaws
+pub mod Defaults
+pub mod DefaultLaws
+pub mod Growths
+pub mod GrowthLaws

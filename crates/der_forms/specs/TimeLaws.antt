@@ -1,5 +1,5 @@
 -- Times are read as they are spelt.
-use Rattle.std.proofs.Common.{◌≡◌, ℕ, ◌+◌, ◌*◌, ◌/◌, ◌%◌, ◌<◌, ◌≤◌, Bool, true, false, cond, eqb, leb, ltb, ◌&&◌, List, length, take, pos, Result, Ok, Err, refl, sym, ap, ◌∙◌, arith}
+use Rattle.std.proofs.Common.{◌≡◌, ℕ, ◌+◌, ◌*◌, ◌/◌, ◌%◌, ◌<◌, ◌≤◌, Bool, true, false, cond, eqb, leb, ltb, ◌&&◌, List, length, take, pos, Option, Some, None, Result, Ok, Err, refl, sym, ap, ◌∙◌, arith}
 use Rattle.std.proofs.lemmas.Bool.{eqb-true, leb-true, ltb-true}
 use Rattle.std.specs.Prelude.{slice_index}
 use Rattle.std.specs.List.{list_all}
@@ -9,14 +9,16 @@ use Rattle.jiff_core.specs.declared.civil.date.Date.{Date}
 use Rattle.jiff_core.proofs.DateLemmas.{civil}
 use Rattle.jiff_core.proofs.SignedLemmas.{signed_arith}
 use Rattle.der_core.specs.Laws.{IsCodec, IsContent}
-use Rattle.der_core.specs.CodecLaws.{element_of_lawful}
+use Rattle.der_core.specs.declared.refusal.DerCause.TheVariants.{BadText}
+use Rattle.der_core.specs.CodecLaws.{element_of_lawful, such_lawful, mapped_lawful}
 use Rattle.krb_names.specs.declared.refusal.NameRefusal.{NameRefusal}
 use Rattle.krb_names.specs.declared.refusal.NameRefusal.TheVariants.{BadTime}
 use Rattle.krb_names.specs.Calendar.{is_civil, seconds_of, civil_of, day_number, month_length}
 use Rattle.krb_names.specs.Times.{has_time_form, civil_digits, civil_text, ktime_reading, ktime_text}
 use Rattle.krb_names.proofs.Calendar.{civil_day, date_found}
 use Rattle.krb_names.proofs.Times.{written}
-use Rattle.der_forms.specs.Times.{time_at, times, kerberos_time}
+use Rattle.der_forms.specs.Times.{time_at, times, kerberos_time, is_moment, moment_time, bare_time, each_time}
+use Rattle.der_forms.specs.declared.time.MomentTime.{MomentTime}
 
 -- what the calendar's tests say of the time that is written in digits
 record Shows (bytes : List ℕ) : Type 0 where
@@ -99,7 +101,7 @@ read_again bytes seconds e =
     let back = written t seconds s.early (omega (arith, s.last)) (omega (arith, s.most, days)) (omega (arith, s.hour)) (omega (arith, s.minute)) (omega (arith, s.second)) civil shown.1 in
     ap ktime_reading text ∙ back
 
-long_text : (bytes : List ℕ) (seconds : ℕ) → ktime_reading bytes ≡ Ok seconds → length bytes ≡ 15
+pub long_text : (bytes : List ℕ) (seconds : ℕ) → ktime_reading bytes ≡ Ok seconds → length bytes ≡ 15
 unfolding given
 long_text bytes seconds e =
     let t = civil_digits bytes in
@@ -123,3 +125,10 @@ times_lawful = record {
 
 pub kerberos_time_lawful : IsCodec kerberos_time
 kerberos_time_lawful = element_of_lawful 0x18 times times_lawful
+
+pub moment_time_lawful : IsCodec moment_time
+moment_time_lawful = mapped_lawful _ _ _ (λ n fits. refl) (element_of_lawful 0x18 _ (such_lawful is_moment BadText times times_lawful))
+
+pub time_again : (x : Option MomentTime) → each_time (bare_time x) ≡ x
+time_again None = refl
+time_again (Some time) = refl

@@ -1,4 +1,6 @@
 //! Single values.
+ghost use Rattle.std.specs.Prelude.{◌≡◌};
+ghost use Rattle.der_forms.specs.Values.{bare_micros, each_micros};
 
 use crate::form::Form;
 use crate::read_fault::ReadFault;
@@ -9,6 +11,14 @@ use std::alloc::{AllocError, Global};
 /// KerberosFlags (RFC 4120, section 5.2.8): 32 bits, bit 0 the highest.
 #[derive(Clone, Copy, Debug, PartialEq, Eq)]
 pub struct Flags(pub u32);
+
+/// A nonce: UInt32 (RFC 4120, section 5.2.4), and from -2^31 on, since some clients write it as Int32.
+#[derive(Clone, Copy, Debug, PartialEq, Eq)]
+pub struct Nonce(pub i64);
+
+/// Microseconds (RFC 4120, section 5.2.4), 0 to 999,999.
+#[derive(Clone, Copy, Debug, PartialEq, Eq)]
+pub struct Micros(pub i32);
 
 impl Form for Flags {
     ghost use Rattle.der_forms.specs.Values.{flags, flags_lawful};
@@ -24,6 +34,58 @@ impl Form for Flags {
     }
 
     ghost lawful = { flags_lawful };
+}
+
+/// The number of microseconds that may be absent.
+pub fn bare_micros(micros: Option<Micros>) -> Option<i32>
+    ensures { result ≡ bare_micros micros }
+{
+    match micros {
+        Some(Micros(number)) => Some(number),
+        None => None,
+    }
+}
+
+/// Microseconds of a number that may be absent.
+pub fn each_micros(number: Option<i32>) -> Option<Micros>
+    ensures { result ≡ each_micros number }
+{
+    match number {
+        Some(number) => Some(Micros(number)),
+        None => None,
+    }
+}
+
+impl Form for Nonce {
+    ghost use Rattle.der_forms.specs.Values.{nonce, nonce_lawful};
+
+    ghost codec = { nonce };
+
+    fn read_from(_alloc: Global, from: &mut Reader) -> Result<Nonce, ReadFault> {
+        Ok(Nonce(from.int_within(i32::MIN as i64, u32::MAX as i64)?))
+    }
+
+    fn write_to(&self, to: &mut Writer) -> Result<(), AllocError> {
+        to.int(self.0)
+    }
+
+    ghost lawful = { nonce_lawful };
+}
+
+impl Form for Micros {
+    ghost use Rattle.der_forms.specs.Values.{micros, micros_lawful};
+
+    ghost codec = { micros };
+
+    fn read_from(_alloc: Global, from: &mut Reader) -> Result<Micros, ReadFault> {
+        Ok(Micros(from.int_within(0, 999_999)? as i32))
+    }
+
+    fn write_to(&self, to: &mut Writer) -> Result<(), AllocError> {
+        to.int(self.0 as i64)
+    }
+
+    ghost lawful = { micros_lawful };
 }
 
 impl Form for i32 {
@@ -58,6 +120,24 @@ impl Form for u32 {
     }
 
     ghost lawful = { uint32_lawful };
+}
+
+/// Any integer of 1 to 8 bytes.
+impl Form for i64 {
+    ghost use Rattle.der_core.specs.Forms.{int};
+    ghost use Rattle.der_core.specs.FormLaws.{int_lawful};
+
+    ghost codec = { int };
+
+    fn read_from(_alloc: Global, from: &mut Reader) -> Result<i64, ReadFault> {
+        Ok(from.int()?)
+    }
+
+    fn write_to(&self, to: &mut Writer) -> Result<(), AllocError> {
+        to.int(*self)
+    }
+
+    ghost lawful = { int_lawful };
 }
 
 impl Form for Bytes {

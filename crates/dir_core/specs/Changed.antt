@@ -1,6 +1,7 @@
 -- When a change is allowed, and why it is not (own choice).
-use Rattle.std.specs.Prelude.{◌||◌, Bool, true, false, nat_eq, List, [], ◌∷◌, Option, None, Some, is_none, is_some, Result}
+use Rattle.std.specs.Prelude.{◌||◌, Bool, true, nat_eq, List, [], ◌∷◌, Option, is_none, is_some, Result}
 use Rattle.std.specs.List.{list_any}
+use Rattle.kdc_prelude.specs.Options.{holds_of}
 use Rattle.kdc_prelude.specs.Texts.{is_one_of}
 use Rattle.kdc_prelude.specs.Verdicts.{first_failing, ◌or_else◌}
 use Rattle.krb_names.specs.SidValue.{same_sid}
@@ -29,19 +30,14 @@ abbrev pub has_reach : Change → Trust → Bool
 has_reach (RemoveReach realm partner reach) trust = is_one_of trust.reach reach
 has_reach _ trust = true
 
--- it is there, and passes the test
-abbrev pub is_found : {X : Type 0} → (X → Bool) → Option X → Bool
-is_found test None = false
-is_found test (Some x) = test x
-
 -- what can be told before the change is made: the forms of its values; then whether its realm, its account or its trust,
 -- and the entry to be removed are there
 abbrev pub own_rows : DirectoryValue → Change → List (DirCause × Bool)
 own_rows dir change =
     (BadField, has_forms change)
     ∷ (UnknownRef, is_some (realm_named dir (realm_of change)))
-    ∷ (UnknownRef, is_none (account_of change) || is_found (has_entry change) (changed_account dir change))
-    ∷ (UnknownRef, is_none (partner_of change) || is_found (has_reach change) (changed_trust dir change))
+    ∷ (UnknownRef, is_none (account_of change) || holds_of (has_entry change) (changed_account dir change))
+    ∷ (UnknownRef, is_none (partner_of change) || holds_of (has_reach change) (changed_trust dir change))
     ∷ []
 
 -- why a change is refused: by itself; else because what it makes is no directory. In this order: a form; what it refers to is

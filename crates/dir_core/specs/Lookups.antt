@@ -17,8 +17,29 @@ realm_named dir name = position (λ realm. same_text realm.name name) dir.realms
 abbrev pub account_named : DirectoryValue → ℕ → List ℕ → Option ℕ
 account_named dir at name = option_and_then (λ realm. position (λ account. same_text account.name name) realm.accounts) (slice_get dir.realms at)
 
+-- the accounts, and the trusts, of a realm, where there is one
+abbrev pub accounts_of : Option RealmRec → List Account
+accounts_of None = []
+accounts_of (Some realm) = realm.accounts
+
+abbrev pub trusts_of : Option RealmRec → List Trust
+trusts_of None = []
+trusts_of (Some realm) = realm.trusts
+
+-- those of the realm at an index
+abbrev pub accounts_at : DirectoryValue → ℕ → List Account
+accounts_at dir realm = accounts_of (slice_get dir.realms realm)
+
+abbrev pub trusts_at : DirectoryValue → ℕ → List Trust
+trusts_at dir realm = trusts_of (slice_get dir.realms realm)
+
+-- the account at an index in the realm at an index
 abbrev pub account_at : DirectoryValue → ℕ → ℕ → Option Account
 account_at dir realm account = option_and_then (λ found. slice_get found.accounts account) (slice_get dir.realms realm)
+
+-- its SID: the realm's, followed by its number (MS-DTYP, section 2.4.2)
+abbrev pub sid_at : DirectoryValue → ℕ → ℕ → Option SidValue
+sid_at dir realm account = option_and_then (λ found. option_map (λ one. followed_by found.sid one.number) (slice_get found.accounts account)) (slice_get dir.realms realm)
 
 -- the one part of a name of one part
 abbrev pub only_part : List (List ℕ) → Option (List ℕ)

@@ -1,15 +1,16 @@
 //! Whether what a change refers to is there.
 ghost use Rattle.std.specs.Prelude.{◌≡◌, find, nat_eq, true};
 ghost use Rattle.std.specs.Option.{option_copied};
+ghost use Rattle.kdc_prelude.specs.Options.{holds_of};
 ghost use Rattle.kdc_prelude.specs.Texts.{same_text};
-ghost use Rattle.dir_core.specs.Changed.{has_entry, has_reach, is_found};
+ghost use Rattle.dir_core.specs.Changed.{has_entry, has_reach};
 
 use crate::lookups::has_text;
 use dir_records::{Account, Change, Trust, is_among};
 
 /// Whether the account is there, with the entry that is to be removed.
 pub(crate) fn is_account_found(change: &Change, account: Option<&Account>) -> bool
-    ensures { result ≡ is_found (has_entry change.now) (option_copied account.entry) }
+    ensures { result ≡ holds_of (has_entry change.now) (option_copied account.entry) }
 {
     match account {
         Some(account) => has_entry(change, account),
@@ -31,7 +32,7 @@ fn has_entry(change: &Change, account: &Account) -> bool
 
 /// Whether the trust is there, with the realm that is to be removed.
 pub(crate) fn is_trust_found(change: &Change, trust: Option<&Trust>) -> bool
-    ensures { result ≡ is_found (has_reach change.now) (option_copied trust.entry) }
+    ensures { result ≡ holds_of (has_reach change.now) (option_copied trust.entry) }
 {
     match trust {
         Some(trust) => has_reach(change, trust),

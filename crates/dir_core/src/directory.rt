@@ -7,7 +7,8 @@ ghost use Rattle.kdc_prelude.specs.Texts.{same_text};
 ghost use Rattle.kdc_prelude.specs.Verdicts.{first_failing};
 ghost use Rattle.dir_core.specs.Changed.{changed, own_rows};
 ghost use Rattle.dir_core.specs.Edits.{changed_account, changed_trust, edited};
-ghost use Rattle.dir_core.specs.Lookups.{account_at, account_named, account_of, account_serving, has_sid, has_spn, is_reached, next_hop, place_of, realm_named, sid_place, spn_place};
+ghost use Rattle.dir_core.specs.Lookups.{account_at, account_named, account_of, account_serving, accounts_at, has_sid, has_spn, is_reached, next_hop, place_of, realm_named, sid_at, sid_place, spn_place, trusts_at};
+ghost use Rattle.dir_records.specs.IsDirectory.{IsDirectory, IsRealm};
 ghost use Rattle.dir_records.specs.WellFormed.{directory_of, first_refusal, is_well_formed, no_memory, unless_refused};
 
 use crate::allowed::{find_trust, is_account_found, is_trust_found};
@@ -18,7 +19,7 @@ use crate::lookups::{
 use crate::realm_edits::realms_after;
 use crate::taken::{spend_key, spend_number};
 use dir_records::{
-    Account, Change, Contents, DirCause, DirRefusal, RealmRec, Trust, find_change_cause,
+    Account, Change, Contents, DirCause, DirRefusal, InRange, RealmRec, Trust, find_change_cause,
     find_refusal,
 };
 use krb_names::{Items, Principal, Sid, TryClone};
@@ -78,6 +79,13 @@ impl Directory {
         }
     }
 
+    /// Tells that it is a directory: consistent, and in the ranges of the types.
+    pub fn keeps_directory(&self)
+        ensures { IsDirectory self.now }
+    {
+        self.contents.keeps_range();
+    }
+
     /// How many realms there are.
     pub fn realm_count(&self) -> u32
         ensures value { result ≡ length self.now.realms }
@@ -92,6 +100,7 @@ impl Directory {
     pub fn realm(&self, i: u32) -> &RealmRec
         requires { i < length self.now.realms }
         ensures found { slice_get self.now.realms i ≡ Some result.now }
+        ensures forms { IsRealm result.now }
         ensures accounts { length result.now.accounts ≤ 100000 }
         ensures trusts { length result.now.trusts ≤ 32 }
         ensures names { all_distinct same_text (map (λ account. account.name) result.now.accounts) ≡ true }
@@ -112,6 +121,7 @@ impl Directory {
     pub fn account_by_name(&self, realm: u32, name: &str) -> Option<u32>
         requires { realm < length self.now.realms }
         ensures found { result ≡ account_named self.now realm name.now }
+        ensures within { IfSome result (λ account. account < length (accounts_at self.now realm)) }
         ensures only { IfSome (slice_get self.now.realms realm) (λ realm. count_by (λ account. same_text account.name name.now) realm.accounts ≤ 1) }
     {
         narrow(place_of_account(self.realm(realm).accounts.as_slice(), name))
@@ -125,10 +135,22 @@ impl Directory {
         self.realm(realm).accounts.get(account as usize)
     }
 
+    /// The SID of the account at an index in the realm at an index: the realm's, followed by the account's number.
+    pub fn account_sid(&self, realm: u32, account: u32) -> Sid
+        requires realm { realm < length self.now.realms }
+        requires account { account < length (accounts_at self.now realm) }
+        ensures { sid_at self.now realm account ≡ Some result }
+    {
+        let realm = self.realm(realm);
+        let accounts = realm.accounts.as_slice();
+        realm.sid.followed_by(accounts[account as usize].number)
+    }
+
     /// The index of the realm and, in it, the index of the account that has this service principal name.
     pub fn account_by_spn(&self, spn: &str) -> Option<(u32, u32)>
         ensures found { result ≡ spn_place self.now spn.now }
         ensures within { IfSome result (λ place. place.0 < length self.now.realms) }
+        ensures account { IfSome result (λ place. place.1 < length (accounts_at self.now place.0)) }
         ensures only { sum_by (λ realm. count_by (has_spn spn.now) realm.accounts) self.now.realms ≤ 1 }
     {
         place_of_spn(self.contents.realms.as_slice(), spn)
@@ -139,6 +161,7 @@ impl Directory {
     pub fn place_of(&self, name: &Principal) -> Option<(u32, u32)>
         ensures found { result ≡ place_of self.now name.now }
         ensures within { IfSome result (λ place. place.0 < length self.now.realms) }
+        ensures account { IfSome result (λ place. place.1 < length (accounts_at self.now place.0)) }
     {
         match name.parts.as_slice() {
             [part] => match self.realm_by_name(name.realm.as_str()) {
@@ -183,6 +206,7 @@ impl Directory {
     pub fn account_by_sid(&self, sid: &Sid) -> Option<(u32, u32)>
         ensures found { result ≡ sid_place self.now sid.now }
         ensures within { IfSome result (λ place. place.0 < length self.now.realms) }
+        ensures account { IfSome result (λ place. place.1 < length (accounts_at self.now place.0)) }
         ensures only { sum_by (λ realm. count_by (has_sid realm.sid sid.now) realm.accounts) self.now.realms ≤ 1 }
     {
         place_of_sid(self.contents.realms.as_slice(), sid)
@@ -193,7 +217,8 @@ impl Directory {
     pub fn next_hop(&self, from: u32, to: u32) -> Option<u32>
         requires from { from < length self.now.realms }
         requires to { to < length self.now.realms }
-        ensures { result ≡ next_hop self.now from to }
+        ensures found { result ≡ next_hop self.now from to }
+        ensures within { IfSome result (λ trust. trust < length (trusts_at self.now from)) }
     {
         let name = self.realm(to).name.as_str();
         narrow(place_of_trust(self.realm(from).trusts.as_slice(), name))

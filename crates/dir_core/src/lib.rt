@@ -6,10 +6,9 @@ mod allowed;
 #[cfg(test)]
 mod change_tests;
 mod directory;
-pub mod error_code;
+mod laws;
 mod lookups;
 mod realm_edits;
-mod rule;
 mod taken;
 #[cfg(test)]
 mod tests;
@@ -19,5 +18,8 @@ pub use dir_records::{
     SpentNumber, Trust, Trusts, is_account_name, is_service,
 };
 pub use directory::Directory;
+pub use kdc_records::{
+    Aim, Branch, Decision, Delegation, Holder, Rule, Subject, Terms, TicketRec, Wish, error_code,
+};
+pub use laws::{changes_keep_directories, only_limits_are_left};
 pub use lookups::has_text;
-pub use rule::Rule;

@@ -1,8 +1,8 @@
 //! Looking things up in the lists of a directory.
-ghost use Rattle.std.specs.Prelude.{◌≡◌, ◌<◌, ◌≤◌, ◌^◌, All, IfSome, length, position};
+ghost use Rattle.std.specs.Prelude.{◌≡◌, ◌<◌, ◌≤◌, ◌^◌, All, IfSome, length, position, slice_get};
 ghost use Rattle.std.specs.List.{list_any};
 ghost use Rattle.kdc_prelude.specs.Texts.{is_one_of, same_text};
-ghost use Rattle.dir_core.specs.Lookups.{has_sid, has_spn, leads_to, reaches_from, sid_place_from, spn_place_from};
+ghost use Rattle.dir_core.specs.Lookups.{accounts_of, has_sid, has_spn, leads_to, reaches_from, sid_place_from, spn_place_from};
 
 use dir_records::{Account, Entry, RealmRec, Trust};
 use krb_names::{Sid, Text};
@@ -38,6 +38,7 @@ pub(crate) fn place_of_spn(realms: &[RealmRec], spn: &str) -> Option<(u32, u32)>
     requires accounts { All (λ realm. length realm.accounts ≤ 100000) realms.now }
     ensures found { result ≡ spn_place_from spn.now 0 realms.now }
     ensures within { IfSome result (λ place. place.0 < length realms.now) }
+    ensures account { IfSome result (λ place. place.1 < length (accounts_of (slice_get realms.now place.0))) }
 {
     for (i, realm) in realms.iter().enumerate() {
         if let Some(account) = narrow(place_in_accounts(realm.accounts.as_slice(), spn)) {
@@ -73,6 +74,7 @@ pub(crate) fn place_of_sid(realms: &[RealmRec], sid: &Sid) -> Option<(u32, u32)>
     requires subs { All (λ realm. length realm.sid.numbers ≤ 14) realms.now }
     ensures found { result ≡ sid_place_from sid.now 0 realms.now }
     ensures within { IfSome result (λ place. place.0 < length realms.now) }
+    ensures account { IfSome result (λ place. place.1 < length (accounts_of (slice_get realms.now place.0))) }
 {
     for (i, realm) in realms.iter().enumerate() {
         if let Some(account) = narrow(place_of_number(realm, sid)) {

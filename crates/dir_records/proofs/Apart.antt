@@ -24,7 +24,7 @@ use Rattle.dir_records.proofs.Distinctness.{no_repeat}
 abbrev pub marked : {X : Type 0} → List (DirPlace × X) → List X
 marked marks = map (λ mark. mark.1) marks
 
-of_accounts : {X : Type 0} (mark : Account → X) (at number : ℕ) (accounts : List Account) → marked (account_marks mark at number accounts) ≡ map mark accounts
+pub of_accounts : {X : Type 0} (mark : Account → X) (at number : ℕ) (accounts : List Account) → marked (account_marks mark at number accounts) ≡ map mark accounts
 of_accounts mark at number [] = refl
 of_accounts mark at number (account ∷ accounts) = ap (λ rest. mark account ∷ rest) (of_accounts mark at (number + 1) accounts)
 
@@ -32,19 +32,19 @@ at_place : {X : Type 0} (place : DirPlace) (xs : List X) → marked (map (λ x. 
 at_place place [] = refl
 at_place place (x ∷ xs) = ap (λ rest. x ∷ rest) (at_place place xs)
 
-of_spns : (at number : ℕ) (accounts : List Account) → marked (spn_marks_from at number accounts) ≡ flat_map (λ account. account.spns) accounts
+pub of_spns : (at number : ℕ) (accounts : List Account) → marked (spn_marks_from at number accounts) ≡ flat_map (λ account. account.spns) accounts
 of_spns at number [] = refl
 of_spns at number (account ∷ accounts) =
     map-append (λ mark. mark.1) (map (λ spn. (AtAccount at number, spn)) account.spns) (spn_marks_from at (number + 1) accounts)
     ∙ rw (at_place (AtAccount at number) account.spns, of_spns at (number + 1) accounts)
 
-of_realms : {X : Type 0} (marks : ℕ → RealmRec → List (DirPlace × X)) (values : RealmRec → List X) → ((at : ℕ) (realm : RealmRec) → marked (marks at realm) ≡ values realm)
+pub of_realms : {X : Type 0} (marks : ℕ → RealmRec → List (DirPlace × X)) (values : RealmRec → List X) → ((at : ℕ) (realm : RealmRec) → marked (marks at realm) ≡ values realm)
     → (at : ℕ) (realms : List RealmRec) → marked (marks_from marks at realms) ≡ flat_map values realms
 of_realms marks values h at [] = refl
 of_realms marks values h at (realm ∷ realms) =
     map-append (λ mark. mark.1) (marks at realm) (marks_from marks (at + 1) realms) ∙ rw (h at realm, of_realms marks values h (at + 1) realms)
 
-of_names : (at : ℕ) (realms : List RealmRec) → marked (realm_names at realms) ≡ map (λ realm. realm.name) realms
+pub of_names : (at : ℕ) (realms : List RealmRec) → marked (realm_names at realms) ≡ map (λ realm. realm.name) realms
 of_names at [] = refl
 of_names at (realm ∷ realms) = ap (λ rest. realm.name ∷ rest) (of_names (at + 1) realms)
 

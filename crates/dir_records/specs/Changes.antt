@@ -1,9 +1,10 @@
 -- What a change to a directory speaks of, and the forms that its values have.
-use Rattle.std.specs.Prelude.{ℕ, ◌&&◌, Bool, true, nat_lt, nat_le, List, Option, None, Some}
+use Rattle.std.specs.Prelude.{ℕ, ◌<◌, ◌^◌, ◌&&◌, Bool, true, nat_lt, nat_le, List, Option, None, Some}
 use Rattle.krb_names.specs.Pieces.{is_name}
 use Rattle.dir_records.specs.declared.change.Change.{Change}
 use Rattle.dir_records.specs.declared.change.Change.TheVariants.{AddAccount, RemoveAccount, SetMark, SetKey, AddSpn, RemoveSpn, AddClassic, RemoveClassic, AddResource, RemoveResource, AddGroup, RemoveGroup, SetLife, AddReach, RemoveReach}
 use Rattle.dir_records.specs.Forms.{is_account_name, is_key, is_positive, is_service}
+use Rattle.dir_records.specs.IsDirectory.{IsKeyInRange, IsSidInRange, IsText}
 
 -- the name of the realm that is changed
 abbrev pub realm_of : Change → List ℕ
@@ -72,3 +73,21 @@ has_forms change =
     && passes is_account_name (account_of change)
     && passes is_name (partner_of change)
     && has_value_forms change
+
+-- the numbers, octets and texts of a change are in the ranges of their types
+abbrev pub IsChangeInRange : Change → Type 0
+IsChangeInRange (AddAccount realm name number key) = IsText realm × IsText name × (number < 2 ^ 32) × IsKeyInRange key
+IsChangeInRange (RemoveAccount realm name) = IsText realm × IsText name
+IsChangeInRange (SetMark realm name mark on) = IsText realm × IsText name
+IsChangeInRange (SetKey realm name key) = IsText realm × IsText name × IsKeyInRange key
+IsChangeInRange (AddSpn realm name spn) = IsText realm × IsText name × IsText spn
+IsChangeInRange (RemoveSpn realm name spn) = IsText realm × IsText name × IsText spn
+IsChangeInRange (AddClassic realm name spn) = IsText realm × IsText name × IsText spn
+IsChangeInRange (RemoveClassic realm name spn) = IsText realm × IsText name × IsText spn
+IsChangeInRange (AddResource realm name sid) = IsText realm × IsText name × IsSidInRange sid
+IsChangeInRange (RemoveResource realm name sid) = IsText realm × IsText name × IsSidInRange sid
+IsChangeInRange (AddGroup realm name number) = IsText realm × IsText name × (number < 2 ^ 32)
+IsChangeInRange (RemoveGroup realm name number) = IsText realm × IsText name × (number < 2 ^ 32)
+IsChangeInRange (SetLife realm life) = IsText realm × (life < 2 ^ 64)
+IsChangeInRange (AddReach realm partner reach) = IsText realm × IsText partner × IsText reach
+IsChangeInRange (RemoveReach realm partner reach) = IsText realm × IsText partner × IsText reach

@@ -2,7 +2,9 @@ pub mod Changes
 pub mod Clashes
 pub mod DirectoryValue
 pub mod Forms
+pub mod IsDirectory
 pub mod Marks
 pub mod Members
+pub mod RefusalTexts
 pub mod Repeats
 pub mod WellFormed

@@ -2,6 +2,7 @@
 ghost use Rattle.std.specs.Prelude.{◌≡◌, ◌≢◌, ◌≤◌, length, Ok, Err, IfOk, MatchResult};
 ghost use Rattle.serde_json.specs.View.{items_view, view};
 ghost use Rattle.dir_text.specs.DirectoryText.{directory_of, json_of, or_not_json, realms_in, some_of, value_of};
+ghost use Rattle.dir_records.specs.IsDirectory.{IsDirectory};
 ghost use Rattle.dir_records.specs.WellFormed.{no_memory};
 ghost use Rattle.dir_text.specs.Gives.{Gives};
 
@@ -22,6 +23,15 @@ const MAX_TEXT: usize = 16_777_216;
 /// The first fault: TooMany at the whole where the text is above 16,777,216 bytes; NotJson at the whole where it is no
 /// JSON; then the faults of members from top to bottom; then what `Directory::new` refuses. NoMemory at the whole.
 pub fn read_directory(alloc: Global, text: &[u8]) -> Result<Directory, DirRefusal>
+    ensures exact { Gives result (directory_of text.now) }
+    ensures well { IfOk result IsDirectory }
+{
+    let directory = directory_of(alloc, text)?;
+    directory.keeps_directory();
+    Ok(directory)
+}
+
+fn directory_of(alloc: Global, text: &[u8]) -> Result<Directory, DirRefusal>
     ensures { Gives result (directory_of text.now) }
 {
     let value = value_of(alloc, text)?;

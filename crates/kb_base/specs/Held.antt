@@ -1,25 +1,45 @@
--- What the devices in memory hold.
-use Rattle.std.specs.Prelude.{ℕ, ◌+◌, ◌-◌, ◌^◌, ◌==◌, min, Bool, List}
-use Rattle.std.specs.List.{list_any}
+-- What the devices in memory hold: their contents, the numbers of the calls that fail, and how many calls were made and failed.
+use Rattle.std.specs.Prelude.{ℕ, List}
+use Rattle.kb_base.specs.Blocks.{BlocksValue}
+use Rattle.kb_base.specs.Callers.{CallersValue}
 
--- the bytes that are left, the numbers of the calls that fail, and how many calls were made and failed
+-- the bytes that are left
 pub record SourceValue : Type 0 where
   pub left : List ℕ
   pub fails : List ℕ
   pub calls : ℕ
   pub faults : ℕ
 
--- the bytes that were written, the numbers of the calls that fail, and how many calls were made and failed
+-- the bytes that were written
 pub record SinkValue : Type 0 where
   pub held : List ℕ
   pub fails : List ℕ
   pub calls : ℕ
   pub faults : ℕ
 
--- one more, up to the end of 64 bits
-abbrev pub one_more : ℕ → ℕ
-one_more count = min (count + 1) (2 ^ 64 - 1)
+-- the batches that are left
+pub record ChangesValue : Type 0 where
+  pub batches : List (List ℕ)
+  pub fails : List ℕ
+  pub calls : ℕ
+  pub faults : ℕ
 
--- the call with this number, counted from 1, is one that fails
-abbrev pub is_listed : List ℕ → ℕ → Bool
-is_listed fails call = list_any (λ listed. listed == call) fails
+-- the callers; faults of accepting are counted apart from those of the callers' connections
+pub record DoorValue : Type 0 where
+  pub callers : CallersValue
+  pub fails : List ℕ
+  pub calls : ℕ
+  pub accept_faults : ℕ
+  pub faults : ℕ
+
+-- the blocks
+pub record EntropyValue : Type 0 where
+  pub blocks : BlocksValue
+  pub fails : List ℕ
+  pub calls : ℕ
+  pub faults : ℕ
+
+-- the callers of a door that never fails; the faults are the writes without a current caller
+pub record SteadyDoorValue : Type 0 where
+  pub callers : CallersValue
+  pub faults : ℕ

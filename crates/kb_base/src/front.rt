@@ -1,6 +1,6 @@
 //! Reading the front of bytes in memory, and the calls that are to fail.
 ghost use Rattle.std.specs.Prelude.{◌≡◌, ◌++◌, min, length, take, drop};
-ghost use Rattle.kb_base.specs.Held.{is_listed};
+ghost use Rattle.kb_base.specs.Counts.{is_listed};
 
 /// Copies as many of the bytes as the buffer takes, and tells how many.
 pub(crate) fn read_front(bytes: &[u8], buf: &mut [u8]) -> usize

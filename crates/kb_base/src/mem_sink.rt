@@ -3,7 +3,7 @@ ghost use Rattle.std.specs.Prelude.{◌≡◌, ◌<◌, ◌↔◌, true, Some, [
 ghost use Rattle.std.specs.Io.{WritesAtMost};
 ghost use Rattle.std.specs.Io.KnownBytes.{WriteAppends};
 ghost use Rattle.kb_base.specs.Faults.{HasDeviceCause};
-ghost use Rattle.kb_base.specs.Held.{is_listed, one_more};
+ghost use Rattle.kb_base.specs.Counts.{is_listed, one_more};
 
 use crate::fault::DeviceFault;
 use crate::front::is_listed;

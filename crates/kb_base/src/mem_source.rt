@@ -3,7 +3,7 @@ ghost use Rattle.std.specs.Prelude.{◌≡◌, ◌↔◌, true, Some, IsErr};
 ghost use Rattle.std.specs.Io.{ReadsAtMost};
 ghost use Rattle.std.specs.Io.KnownBytes.{ReadConsumes};
 ghost use Rattle.kdc_prelude.specs.Causes.{HasCause};
-ghost use Rattle.kb_base.specs.Held.{is_listed, one_more};
+ghost use Rattle.kb_base.specs.Counts.{is_listed, one_more};
 
 use crate::fault::Failed;
 use crate::front::{is_listed, read_front};

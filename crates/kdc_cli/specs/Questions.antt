@@ -9,7 +9,7 @@ use Rattle.krb_names.specs.Spns.{spn_reading}
 use Rattle.krb_names.specs.declared.refusal.NameRefusal.{NameRefusal}
 use Rattle.krb_names.specs.declared.principal.Principal.{Principal}
 use Rattle.dir_records.specs.DirectoryValue.{DirectoryValue}
-use Rattle.dir_core.specs.RuleNames.{name_of}
+use Rattle.kdc_records.specs.RuleNames.{name_of}
 use Rattle.s4u_rules.specs.AskSelf.{self_answer, self_question as asked_to_self}
 use Rattle.s4u_rules.specs.AskClassic.{classic_answer, classic_question as asked_to_target}
 use Rattle.s4u_rules.specs.declared.asked.Asked.{Asked}

@@ -4,7 +4,7 @@ use Rattle.std.specs.List.{list_any}
 use Rattle.std.specs.Io.KnownBytes.{Appends}
 use Rattle.kdc_prelude.specs.Printed.{AppendsFront}
 use Rattle.dir_records.specs.DirectoryValue.{DirectoryValue}
-use Rattle.dir_core.specs.RuleNames.{name_of}
+use Rattle.kdc_records.specs.RuleNames.{name_of}
 use Rattle.dir_records.specs.declared.refusal.DirRefusal.{DirRefusal}
 use Rattle.dir_text.specs.DirectoryText.{directory_of}
 use Rattle.ticket_explain.specs.Explained.{denied, explained}

@@ -1,7 +1,7 @@
 //! Loading the directory.
 ghost use Rattle.std.specs.Prelude.{◌≡◌, IfOk, IfErr, IfSome};
 ghost use Rattle.dir_text.specs.DirectoryText.{directory_of};
-ghost use Rattle.kb_base.specs.Faults.{FailsByCount};
+ghost use Rattle.kb_base.specs.Faults.{HasDeviceCause};
 ghost use Rattle.kdc_cli.specs.Loading.{reading_of};
 
 use dir_core::{DirCause, DirPlace, DirRefusal, Directory};
@@ -28,7 +28,7 @@ pub enum Loaded {
 /// Reads the directory, whose text may be refused.
 pub fn load<D: Source>(alloc: Global, dir: &mut D) -> Result<Loaded, DeviceFault>
     ensures value { IfOk result (λ loaded. IfSome (D.left dir.old) (λ text. reading_of loaded ≡ directory_of text)) }
-    ensures cause { FailsByCount (D.faults dir.old) (D.faults dir.new) result }
+    ensures cause { HasDeviceCause (D.faults dir.old) (D.faults dir.new) result }
 {
     match read_whole(alloc, dir, MAX_DIRECTORY)? {
         ReadEnd::TooLong => Ok(Loaded::Refused(too_long())),

@@ -1,5 +1,5 @@
 //! The top call: all that the program does.
-ghost use Rattle.std.specs.Prelude.{◌≡◌, ◌≤◌, IfOk, IfErr, IfSome, Some, None, false, map, string_bytes, true, MatchResult};
+ghost use Rattle.std.specs.Prelude.{◌≡◌, ◌<◌, ◌≤◌, IfOk, IfErr, IfSome, Some, None, false, map, string_bytes, true, MatchResult};
 ghost use Rattle.kdc_prelude.specs.Causes.{Rose};
 ghost use Rattle.kdc_cli.specs.Outcomes.{is_fault};
 ghost use Rattle.kdc_cli.specs.Replies.{outcome_of_reply};
@@ -33,6 +33,11 @@ pub fn run_words<D: Source, I: Source, O: Sink>(
     ensures status { is_status (command_of (map string_bytes words.now)) result ≡ true }
     ensures read_fault { result ≡ 5 → ReadingFailed (D.left dir.old) (Rose (D.faults dir.old) (D.faults dir.new)) (Rose (I.faults input.old) (I.faults input.new)) }
     ensures write_fault { result ≡ 6 → Rose (O.faults out.old) (O.faults out.new) }
+
+    // A fault that came is told.
+    ensures dir_fault { D.faults dir.old < D.faults dir.new → result ≡ 5 }
+    ensures input_fault { I.faults input.old < I.faults input.new → result ≡ 5 }
+    ensures out_fault { O.faults out.old < O.faults out.new → result ≡ 6 }
 {
     match judge(alloc, words, dir, input) {
         Err(DeviceFault::NoMemory) => 3,
@@ -55,6 +60,8 @@ fn judge<D: Source, I: Source>(
     ensures status { MatchResult result (λ reply. is_status (command_of (map string_bytes words.now)) reply.status ≡ true) (λ fault. fault ≡ DeviceFault.Failed → is_status (command_of (map string_bytes words.now)) 5 ≡ true) }
     ensures no_fault { IfOk result (λ reply. is_fault reply.status ≡ false) }
     ensures cause { IfErr result (λ fault. fault ≡ DeviceFault.Failed → ReadingFailed (D.left dir.old) (Rose (D.faults dir.old) (D.faults dir.new)) (Rose (I.faults input.old) (I.faults input.new))) }
+    ensures dir_fault { D.faults dir.old < D.faults dir.new → result ≡ Err DeviceFault.Failed }
+    ensures input_fault { I.faults input.old < I.faults input.new → result ≡ Err DeviceFault.Failed }
 {
     match read_command(alloc, words)? {
         None => Reply::line(alloc, 2, b"bad words"),

@@ -1,6 +1,6 @@
 //! What is done over a directory, and its outcome.
-ghost use Rattle.std.specs.Prelude.{◌≡◌, ◌≤◌, IfOk, IfErr, IfSome, length, true, false};
-ghost use Rattle.kb_base.specs.Faults.{FailsByCount};
+ghost use Rattle.std.specs.Prelude.{◌≡◌, ◌<◌, ◌≤◌, IfOk, IfErr, IfSome, length, true, false};
+ghost use Rattle.kb_base.specs.Faults.{HasDeviceCause};
 ghost use Rattle.kdc_prelude.specs.Causes.{Rose};
 ghost use Rattle.kdc_cli.specs.Outcomes.{is_fault};
 ghost use Rattle.kdc_cli.specs.Replies.{outcome_of_reply};
@@ -29,6 +29,8 @@ pub fn do_task<D: Source, I: Source>(
     ensures status { IfOk result (λ reply. is_task_status task reply.status ≡ true) }
     ensures no_fault { IfOk result (λ reply. is_fault reply.status ≡ false) }
     ensures cause { IfErr result (λ fault. fault ≡ DeviceFault.Failed → ReadingFailed (D.left dir.old) (Rose (D.faults dir.old) (D.faults dir.new)) (Rose (I.faults input.old) (I.faults input.new))) }
+    ensures dir_fault { D.faults dir.old < D.faults dir.new → result ≡ Err DeviceFault.Failed }
+    ensures input_fault { I.faults input.old < I.faults input.new → result ≡ Err DeviceFault.Failed }
 {
     match load(alloc, dir)? {
         Loaded::Refused(refusal) => Reply::refused(alloc, refusal),
@@ -45,7 +47,7 @@ fn do_over<I: Source>(
     ensures answer { IfOk result (λ reply. IfSome (I.left input.old) (λ bytes. with_input task dir.now bytes ≡ outcome_of_reply reply)) }
     ensures status { IfOk result (λ reply. is_task_status task reply.status ≡ true) }
     ensures no_fault { IfOk result (λ reply. is_fault reply.status ≡ false) }
-    ensures cause { FailsByCount (I.faults input.old) (I.faults input.new) result }
+    ensures cause { HasDeviceCause (I.faults input.old) (I.faults input.new) result }
 {
     match read_whole(alloc, input, MAX_INPUT)? {
         ReadEnd::TooLong => Reply::line(alloc, 14, b"input too long"),

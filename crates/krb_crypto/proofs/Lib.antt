@@ -12,3 +12,4 @@ pub mod Opening
 pub mod Parts
 pub mod Sums
 pub mod ZeroedTexts
+pub mod Texts

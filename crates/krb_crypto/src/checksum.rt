@@ -1,6 +1,7 @@
 //! The checksums of the AES types (RFC 3961, section 5.4; RFC 3962, section 6).
 
 ghost use Rattle.std.specs.Prelude.{◌≡◌, ◌↔◌, IsTrue, take};
+ghost use Rattle.kdc_prelude.specs.Texts.{same_text};
 ghost use Rattle.krb_crypto.specs.Checksums.{mac};
 ghost use Rattle.krb_crypto.specs.Encryption.{short_hmac};
 
@@ -27,9 +28,11 @@ pub(crate) fn short_hmac(key: &Key, text: &[u8]) -> [u8; 12]
     shortened(&hmac_sha1(key.bytes(), text))
 }
 
-/// Whether the shown bytes are this sum. Reads all of them wherever they differ.
-pub(crate) fn is_same_sum(sum: &[u8; 12], shown: &[u8]) -> bool
-    ensures { IsTrue result ↔ (shown.now ≡ sum.now) }
+/// Whether the shown bytes are this sum. Where there are 12 of them it looks at each, wherever they differ; nothing is
+/// claimed of the time that it takes.
+pub fn is_same_sum(sum: &[u8; 12], shown: &[u8]) -> bool
+    ensures exact { result ≡ same_text shown.now sum.now }
+    ensures found { IsTrue result ↔ (shown.now ≡ sum.now) }
 {
     if shown.len() != 12 {
         return false;

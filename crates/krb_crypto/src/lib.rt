@@ -13,7 +13,7 @@ mod rc4;
 mod sealing;
 mod zeros;
 
-pub use checksum::{mac, mac_ok};
+pub use checksum::{is_same_sum, mac, mac_ok};
 pub use cts::{cts_decrypt, cts_encrypt};
 pub use hmac::{hmac_md5, hmac_sha1};
 pub use key_derivation::derive;

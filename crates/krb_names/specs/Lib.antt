@@ -2,6 +2,8 @@ pub mod Calendar
 pub mod Decimals
 pub mod Etypes
 pub mod Keys
+pub mod Moments
+pub mod NameTexts
 pub mod Pieces
 pub mod Principals
 pub mod Realms

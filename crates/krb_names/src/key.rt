@@ -4,9 +4,10 @@ ghost use Rattle.krb_names.specs.Etypes.{key_length};
 ghost use Rattle.krb_names.specs.Keys.{key_bytes, key_of};
 
 use crate::etype::Etype;
+use std::fmt;
 
-/// An EncryptionKey: its type, and its octets with zeros behind them up to 32.
-#[derive(Clone, Copy, Debug, PartialEq, Eq)]
+/// An EncryptionKey: its type, and its octets with zeros behind them up to 32. Its `Debug` tells the type alone.
+#[derive(Clone, Copy, PartialEq, Eq)]
 pub struct Key {
     pub etype: Etype,
     pub raw: [u8; 32],
@@ -28,5 +29,13 @@ impl Key {
         ensures { result.now ≡ key_bytes self.now }
     {
         &self.raw[..self.etype.key_length()]
+    }
+}
+
+impl fmt::Debug for Key {
+    fn fmt<W: fmt::Write>(&self, f: &mut fmt::Formatter<W>) -> fmt::Result {
+        f.debug_struct("Key")
+            .field("etype", &self.etype)
+            .finish_non_exhaustive()
     }
 }

@@ -2,13 +2,16 @@
 #![tactic(auto)]
 
 mod civil;
+mod clock_skew;
 mod decimal;
 mod etype;
 mod items;
 mod key;
 mod ktime;
 mod ktime_text;
+mod laws;
 mod moment;
+mod name_text;
 mod pieces;
 mod principal;
 mod realm;
@@ -27,7 +30,9 @@ pub use items::{Bytes, Items, Numbers, Signed, TryClone};
 pub use key::Key;
 pub use ktime::KTime;
 pub use ktime_text::{ktime_read, ktime_write};
+pub use laws::written_times_read;
 pub use moment::Moment;
+pub use name_text::{push_at_realm, push_joined, push_name, push_number, push_sid};
 pub use pieces::is_name_text;
 pub use principal::{Principal, parse_name};
 pub use realm::{Realm, parse_realm};

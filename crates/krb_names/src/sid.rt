@@ -1,6 +1,6 @@
 //! Security identifiers, MS-DTYP, section 2.4.2.
 ghost use Rattle.std.specs.Prelude.{◌≡◌, ◌<◌, ◌≤◌, ◌^◌, length};
-ghost use Rattle.krb_names.specs.SidValue.{followed_by};
+ghost use Rattle.krb_names.specs.SidValue.{domain_of, followed_by, number_of};
 
 use crate::items::{Items, TryClone};
 use std::alloc::{AllocError, Global};
@@ -68,6 +68,16 @@ impl Sid {
         numbers[..count].copy_from_slice(self.numbers());
         numbers[count] = number;
         Sid::new(self.authority, &numbers[..count + 1])
+    }
+
+    /// The identifier without its last sub-authority, and that number: an account's realm and its number there.
+    pub fn apart(&self) -> (Sid, u32)
+        requires { 2 ≤ length self.now.numbers }
+        ensures { result ≡ (domain_of self.now, number_of self.now) }
+    {
+        let numbers = self.numbers();
+        let last = numbers.len() - 1;
+        (Sid::new(self.authority, &numbers[..last]), numbers[last])
     }
 
     /// Its sub-authorities, 1 to 15.

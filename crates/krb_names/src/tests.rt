@@ -164,6 +164,16 @@ fn a_principal_is_its_parts_and_its_realm(rt: HostRuntime) -> Result<(), Fail> {
 }
 
 #[test]
+fn names_and_identifiers_are_told(rt: HostRuntime) -> Result<(), Fail> {
+    let mut text = String::new(rt.alloc());
+    push_name(&mut text, &parse_name(rt.alloc(), "alice@R")?)?;
+    text.push_str(" ")?;
+    push_sid(&mut text, &parse_sid("S-1-5-21-1-1001")?)?;
+    assert_eq!(rt; text.as_str(), "alice@R S-1-5-21-1-1001");
+    Ok(())
+}
+
+#[test]
 fn a_service_keeps_its_text(rt: HostRuntime) -> Result<(), Fail> {
     let service = parse_spn(rt.alloc(), "http/web")?;
     let copied = service.try_clone(rt.alloc())?;
@@ -193,12 +203,16 @@ fn a_list_of_texts_is_copied(rt: HostRuntime) -> Result<(), Fail> {
 }
 
 #[test]
-fn keys_have_the_octets_of_their_type(rt: HostRuntime) {
+fn keys_have_the_octets_of_their_type_and_do_not_tell_them(rt: HostRuntime) -> Result<(), Fail> {
     for (number, etype, length) in [(17, Etype::Aes128, 16), (18, Etype::Aes256, 32)] {
         assert_eq!(rt; Etype::from_number(number), Some(etype));
         assert_eq!(rt; etype.number(), number);
         assert_eq!(rt; etype.key_length(), length);
     }
     let octets = [7; 32];
-    assert_eq!(rt; Key::new(Etype::Aes256, &octets).bytes(), octets.as_slice());
+    let key = Key::new(Etype::Aes256, &octets);
+    assert_eq!(rt; key.bytes(), octets.as_slice());
+    let told = format!(in rt.alloc(); "{key:?}")?;
+    assert_eq!(rt; told.as_str(), "Key { etype: Aes256, .. }");
+    Ok(())
 }

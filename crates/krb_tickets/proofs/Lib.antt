@@ -1,4 +1,4 @@
-pub mod Joined
+pub mod Near
 pub mod Pacs
 pub mod PacSizes
 pub mod Realms

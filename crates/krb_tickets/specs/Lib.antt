@@ -9,6 +9,10 @@ pub mod Transited
 pub mod TransitedLaws
 pub mod EncTicketPart
 pub mod Laws
+pub mod Growths
 pub mod Told
 pub mod Pac
 pub mod Found
+pub mod SameItem
+pub mod SamePart
+pub mod SamePartLaws

@@ -97,7 +97,7 @@ plain_not_joined here parts d = by_parts here.place here.bytes parts d
         joined_of (record { place = place; bytes = bytes }) (inside, after) read utf8 ∙ not_name content name
 
 -- one part is spelt as its text
-one_spelling : (parts : List (List ℕ)) (part : List ℕ) → parts ≡ part ∷ [] → flat_map text.spelling parts ≡ text.spelling part
+pub one_spelling : (parts : List (List ℕ)) (part : List ℕ) → parts ≡ part ∷ [] → flat_map text.spelling parts ≡ text.spelling part
 one_spelling parts part lone = ap (flat_map text.spelling) lone ∙ flat_map-cons text.spelling part [] ∙ append-nil (text.spelling part)
 
 pub name_string_lawful : (kind : ℤ) → IsContent (name_string kind)

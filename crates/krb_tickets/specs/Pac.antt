@@ -1,5 +1,5 @@
 -- The PAC of a ticket (RFC 4120 5.2.6.1 and 7.5.4), and the ticket that the ticket signature is over (MS-PAC 2.8.3).
-use Rattle.std.specs.Prelude.{ℕ, ℤ, pos, negsuc, ◌^◌, List, [], ◌∷◌, length, map, Bool, true, false, nat_eq, nat_lt, Option, Some, None, is_some, Result, Ok, Err, if◌then◌else◌}
+use Rattle.std.specs.Prelude.{ℕ, ℤ, pos, negsuc, ◌^◌, List, [], ◌∷◌, length, map, Bool, false, nat_eq, nat_lt, Option, Some, None, is_some, Result, Ok, Err, if◌then◌else◌}
 use Rattle.std.specs.List.{filter, flat_map, list_any}
 use Rattle.der_core.specs.declared.refusal.DerRefusal.{DerRefusal}
 use Rattle.der_core.specs.Codec.{whole}

@@ -1,5 +1,6 @@
 -- PrincipalName ::= SEQUENCE { name-type [0] Int32, name-string [1] SEQUENCE OF KerberosString } (RFC 4120 5.2.2)
-use Rattle.std.specs.Prelude.{ℕ, ℤ, List}
+use Rattle.std.specs.Prelude.{◌≡◌, ℕ, ℤ, List, Option, Some, None, option_map}
+use Rattle.std.proofs.Common.{refl}
 use Rattle.der_core.specs.Codec.{Codec, element_of}
 use Rattle.der_core.specs.Forms.{int32}
 use Rattle.der_forms.specs.Fields.{Fields, end, depending, field, made, sequence}
@@ -34,3 +35,14 @@ in_realm name realm = record { kind = name.name_type; parts = name.name_string; 
 
 abbrev pub name_of : Principal → PrincipalName
 name_of p = record { name_type = p.kind; name_string = p.parts }
+
+-- the same for a name that may be absent
+abbrev pub named : List ℕ → Option PrincipalName → Option Principal
+named realm name = option_map (λ n. in_realm n realm) name
+
+abbrev pub unnamed : Option Principal → Option PrincipalName
+unnamed principal = option_map name_of principal
+
+pub named_again : (realm : List ℕ) (name : Option PrincipalName) → unnamed (named realm name) ≡ name
+named_again realm None = refl
+named_again realm (Some name) = refl

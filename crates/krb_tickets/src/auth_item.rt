@@ -30,6 +30,19 @@ impl TryClone for AuthItem {
     }
 }
 
+impl PartialEq for AuthItem {
+    ghost use Rattle.std.specs.Cmp.{partial_equiv_from_equiv};
+    ghost use Rattle.krb_tickets.specs.SameItem.{same_item, same_item_equiv};
+
+    ghost eq = { same_item };
+
+    ghost laws = { partial_equiv_from_equiv same_item_equiv };
+
+    fn eq(&self, other: &AuthItem) -> bool {
+        self.kind == other.kind && self.content.as_slice() == other.content.as_slice()
+    }
+}
+
 impl Sequence for AuthItem {
     ghost use Rattle.krb_tickets.specs.AuthItem.{fields};
     ghost use Rattle.krb_tickets.specs.Laws.{auth_item_fields};

@@ -14,11 +14,12 @@
 //!     authorization-data [10] AuthorizationData OPTIONAL
 //! }
 //! ```
-ghost use Rattle.std.specs.Prelude.{◌≡◌, ◌++◌, ◌<◌, ◌≤◌, ◌*◌, ◌^◌, ℕ, List, IfOk, Ok, length};
+ghost use Rattle.std.specs.Prelude.{◌≡◌, ◌+◌, ◌++◌, ◌<◌, ◌≤◌, ◌*◌, ◌^◌, ◌↔◌, ℕ, List, IfOk, IsTrue, Ok, length};
 ghost use Rattle.kdc_prelude.specs.Answers.{Answers};
 ghost use Rattle.der_core.specs.Codec.{whole};
 ghost use Rattle.krb_tickets.specs.declared.enc_ticket_part.EncTicketPart.{EncTicketPart};
 ghost use Rattle.krb_tickets.specs.EncTicketPart.{enc_ticket_part};
+ghost use Rattle.krb_tickets.specs.SamePart.{same_key, same_name, same_part, same_time};
 ghost use Rattle.krb_tickets.specs.Told.{told};
 
 use crate::auth_item::AuthItems;
@@ -130,6 +131,8 @@ pub fn read_part(alloc: Global, bytes: &[u8]) -> Result<EncTicketPart, TicketFau
     ensures found { IfOk result (λ p. enc_ticket_part.IsDer bytes.now p) }
     // It can be written, in at most three times as many bytes.
     ensures value { IfOk result (λ p. enc_ticket_part.Fits p × (length (enc_ticket_part.spelling p) ≤ 3 * length bytes.now)) }
+    // Or in at most 8 bytes more: its flags are written as 32 bits, however many were read.
+    ensures short { IfOk result (λ p. length (enc_ticket_part.spelling p) ≤ length bytes.now + 8) }
     // What is a part is read, unless memory runs out.
     ensures only { (p : EncTicketPart) → enc_ticket_part.IsDer bytes.now p → Answers TicketFault.NoMemory result (Ok p) }
     // Where the first fault is.
@@ -157,4 +160,50 @@ pub fn part_keeps_laws()
     ensures only { (a b u v : List ℕ) (p q : EncTicketPart) → enc_ticket_part.IsDer a p → enc_ticket_part.IsDer b q → a ++ u ≡ b ++ v → (a ≡ b) × (p ≡ q) }
 {
     keeps_laws::<EncTicketPart>()
+}
+
+/// Whether two parts are the same in each field: flags, key, client, transited realms, times and authorization data.
+#[tactic(auto, using(crate::specs::SamePartLaws::same_is, crate::specs::SamePartLaws::equal_is))]
+pub fn is_same_part(a: &EncTicketPart, b: &EncTicketPart) -> bool
+    ensures value { result ≡ same_part a.now b.now }
+    // The same parts are equal, and equal parts the same.
+    ensures exact { IsTrue result ↔ (a.now ≡ b.now) }
+{
+    are_same(a, b)
+}
+
+#[tactic(auto, unfolding(crate::specs::SamePart::same_part))]
+fn are_same(a: &EncTicketPart, b: &EncTicketPart) -> bool
+    ensures { result ≡ same_part a.now b.now }
+{
+    a.flags == b.flags
+        && has_same_key(&a.key, &b.key)
+        && has_same_name(&a.client, &b.client)
+        && a.transited.as_slice() == b.transited.as_slice()
+        && a.auth == b.auth
+        && has_same_time(&a.start, &b.start)
+        && a.end == b.end
+        && a.items.as_slice() == b.items.as_slice()
+}
+
+fn has_same_key(a: &Key, b: &Key) -> bool
+    ensures { result ≡ same_key a.now b.now }
+{
+    a.etype.number() == b.etype.number() && a.raw == b.raw
+}
+
+fn has_same_name(a: &Principal, b: &Principal) -> bool
+    ensures { result ≡ same_name a.now b.now }
+{
+    a.kind == b.kind && a.is_same(b)
+}
+
+fn has_same_time(a: &Option<KTime>, b: &Option<KTime>) -> bool
+    ensures { result ≡ same_time a.now b.now }
+{
+    match (a, b) {
+        (Some(a), Some(b)) => a == b,
+        (None, None) => true,
+        _ => false,
+    }
 }

@@ -1,5 +1,5 @@
 //! The PAC within a ticket's authorization data (RFC 4120, section 5.2.6.1; MS-PAC, section 2.8.3).
-ghost use Rattle.std.specs.Prelude.{◌≡◌, ◌++◌, ◌<◌, ◌≤◌, ◌*◌, ◌^◌, ℕ, List, [], ◌∷◌, IfOk, length, map, option_map};
+ghost use Rattle.std.specs.Prelude.{◌≡◌, ◌+◌, ◌++◌, ◌<◌, ◌≤◌, ◌*◌, ◌^◌, ℕ, List, [], ◌∷◌, IfOk, length, map, option_map, true};
 ghost use Rattle.std.specs.List.{flat_map, list_any, AllByRecursion};
 ghost use Rattle.der_core.specs.Codec.{whole, explicit};
 ghost use Rattle.der_core.specs.Forms.{int32, octets};
@@ -11,7 +11,7 @@ ghost use Rattle.krb_tickets.specs.Found.{AreFound, Finds};
 ghost use Rattle.krb_tickets.specs.Pac.{is_pac, elements_in, elements_of, pacs_in, pacs, pac_of, zeroed, item_without_pac, without_pac};
 
 use crate::auth_item::{AuthItem, AuthItems};
-use crate::enc_ticket_part::{EncTicketPart, write_part};
+use crate::enc_ticket_part::EncTicketPart;
 use der_core::{DerCause, DerRefusal, Reader};
 use der_forms::{ReadFault, read, write};
 use krb_names::{Bytes, Items, TryClone};
@@ -179,17 +179,18 @@ fn content_field<'a>(from: &mut Reader<'a>) -> Result<&'a [u8], DerRefusal>
 }
 
 /// The DER of the part that the ticket signature is over (MS-PAC, section 2.8.3): with one zero byte for the ad-data of its PAC.
-/// The part's own DER where `pac_of` is None. The part's own DER has fewer than 2^27 bytes.
+/// The part's own DER where `pac_of` is None. Where the PAC has no bytes, the zero byte and the headers around it take a few more.
 pub fn part_without_pac(alloc: Global, part: &EncTicketPart) -> Result<Bytes, AllocError>
     requires fits { enc_ticket_part.Fits part.now }
-    requires short { length (enc_ticket_part.spelling part.now) < 2 ^ 27 }
+    requires short { length (enc_ticket_part.spelling part.now) + 16 < 2 ^ 32 }
     ensures ok { IfOk result (λ bytes. bytes ≡ enc_ticket_part.spelling (without_pac part.now)) }
+    ensures short { IfOk result (λ bytes. length bytes ≤ length (enc_ticket_part.spelling part.now) + 12) }
 {
     match pac_of(part) {
-        None => write_part(alloc, part),
+        None => write(alloc, part),
         Some(_) => {
             let items = items_without_pac(alloc, part.items.as_slice())?;
-            write_part(alloc, &with_items(alloc, part, items)?)
+            write(alloc, &with_items(alloc, part, items)?)
         }
     }
 }
@@ -214,10 +215,12 @@ fn with_items(
     })
 }
 
+/// The items with one zero byte for the one PAC among them.
 fn items_without_pac(alloc: Global, items: &[AuthItem]) -> Result<AuthItems, AllocError>
-    requires { length (flat_map auth_item.spelling items.now) < 2 ^ 27 }
+    requires one { length (pacs items.now) ≤ 1 }
+    requires short { length (flat_map auth_item.spelling items.now) + 16 < 2 ^ 32 }
     ensures value { IfOk result (λ made. made ≡ map item_without_pac items.now) }
-    ensures within { IfOk result (λ _. length (flat_map auth_item.spelling (map item_without_pac items.now)) ≤ 9 * length (flat_map auth_item.spelling items.now)) }
+    ensures within { IfOk result (λ _. length (flat_map auth_item.spelling (map item_without_pac items.now)) ≤ length (flat_map auth_item.spelling items.now) + 8 * length (pacs items.now)) }
 {
     let mut made = Items::new(alloc);
     for item in items {
@@ -227,9 +230,10 @@ fn items_without_pac(alloc: Global, items: &[AuthItem]) -> Result<AuthItems, All
 }
 
 fn item_without_pac(alloc: Global, item: &AuthItem) -> Result<AuthItem, AllocError>
-    requires { length item.now.content < 2 ^ 27 }
+    requires one { length (pacs_in (elements_of item.now)) ≤ 1 }
+    requires short { length item.now.content + 16 < 2 ^ 32 }
     ensures value { IfOk result (λ made. made ≡ item_without_pac item.now) }
-    ensures within { IfOk result (λ _. length (auth_item.spelling (item_without_pac item.now)) ≤ 9 * length (auth_item.spelling item.now)) }
+    ensures within { IfOk result (λ _. length (auth_item.spelling (item_without_pac item.now)) ≤ length (auth_item.spelling item.now) + 8 * length (pacs_in (elements_of item.now))) }
 {
     let elements = elements_of(alloc, item)?;
     if !has_pac(elements.as_slice()) {
@@ -245,7 +249,7 @@ fn item_without_pac(alloc: Global, item: &AuthItem) -> Result<AuthItem, AllocErr
 fn elements_of(alloc: Global, item: &AuthItem) -> Result<AuthItems, AllocError>
     ensures value { IfOk result (λ elements. elements ≡ elements_of item.now) }
     ensures fits { IfOk result (λ elements. AllByRecursion auth_item.Fits elements) }
-    ensures within { IfOk result (λ elements. length (flat_map auth_item.spelling elements) ≤ 3 * length item.now.content) }
+    ensures within { IfOk result (λ elements. list_any is_pac elements ≡ true → length ((sequence_of auth_item).spelling elements) ≤ length item.now.content) }
 {
     if item.kind == AD_IF_RELEVANT {
         elements_in(alloc, item.content.as_slice())
@@ -259,7 +263,7 @@ fn elements_of(alloc: Global, item: &AuthItem) -> Result<AuthItems, AllocError>
 fn elements_in(alloc: Global, content: &[u8]) -> Result<AuthItems, AllocError>
     ensures value { IfOk result (λ elements. elements ≡ elements_in content.now) }
     ensures fits { IfOk result (λ elements. AllByRecursion auth_item.Fits elements) }
-    ensures within { IfOk result (λ elements. length (flat_map auth_item.spelling elements) ≤ 3 * length content.now) }
+    ensures within { IfOk result (λ elements. list_any is_pac elements ≡ true → length ((sequence_of auth_item).spelling elements) ≤ length content.now) }
 {
     if content.len() >= TOO_MANY_BYTES {
         return Ok(Items::new(alloc));

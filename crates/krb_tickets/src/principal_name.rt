@@ -5,15 +5,15 @@
 //!     name-string [1] SEQUENCE OF KerberosString    -- 1 to 8
 //! }
 //! ```
-ghost use Rattle.std.specs.Prelude.{◌≡◌, ◌++◌, ◌<◌, ◌^◌, OnOk, IfSome, length, option_map};
+ghost use Rattle.std.specs.Prelude.{◌≡◌, ◌++◌, ◌<◌, ◌^◌, OnOk, IfOk, IfSome, length};
 ghost use Rattle.der_core.specs.Elements.{element};
 ghost use Rattle.der_forms.specs.Fields.{tag_of, optional_spelling};
-ghost use Rattle.krb_tickets.specs.PrincipalName.{principal_name, in_realm, name_of};
+ghost use Rattle.krb_tickets.specs.PrincipalName.{principal_name, in_realm, name_of, named, unnamed};
 
 use crate::name_string::{name_string, put_name_string};
 use der_core::{Reader, Writer};
 use der_forms::{Form, ReadFault, Sequence, field, put_field, put_sequence, read_sequence};
-use krb_names::{Principal, Realm, Texts};
+use krb_names::{Principal, Realm, Texts, TryClone};
 use std::alloc::{AllocError, Global};
 
 /// A name without its realm, as it stands in messages beside a realm.
@@ -40,6 +40,20 @@ impl PrincipalName {
     }
 }
 
+/// The principal of a name in this realm, where the name is there.
+pub fn named(
+    alloc: Global,
+    name: Option<PrincipalName>,
+    realm: &Realm,
+) -> Result<Option<Principal>, AllocError>
+    ensures { IfOk result (λ principal. principal ≡ named realm.now name) }
+{
+    match name {
+        Some(name) => Ok(Some(name.in_realm(realm.try_clone(alloc)?))),
+        None => Ok(None),
+    }
+}
+
 /// Writes the field with this number, the name of a principal without its realm.
 pub fn put_name(to: &mut Writer, number: u8, name: &Principal) -> Result<(), AllocError>
     requires number { number < 31 }
@@ -61,9 +75,9 @@ pub fn put_optional_name(
     name: &Option<Principal>,
 ) -> Result<(), AllocError>
     requires number { number < 31 }
-    requires fits { IfSome (option_map name_of name.now) principal_name.Fits }
-    requires short { length (optional_spelling number principal_name (option_map name_of name.now)) < 2 ^ 32 }
-    ensures ok { OnOk result (to.new ≡ to.old ++ optional_spelling number principal_name (option_map name_of name.now)) }
+    requires fits { IfSome (unnamed name.now) principal_name.Fits }
+    requires short { length (optional_spelling number principal_name (unnamed name.now)) < 2 ^ 32 }
+    ensures ok { OnOk result (to.new ≡ to.old ++ optional_spelling number principal_name (unnamed name.now)) }
 {
     if let Some(name) = name {
         put_name(to, number, name)?;

@@ -94,6 +94,8 @@ pub fn read_ticket(alloc: Global, bytes: &[u8]) -> Result<Ticket, TicketFault>
     ensures found { IfOk result (λ t. ticket.IsDer bytes.now t) }
     // It can be written, in at most three times as many bytes.
     ensures value { IfOk result (λ t. ticket.Fits t × (length (ticket.spelling t) ≤ 3 * length bytes.now)) }
+    // Or in no more bytes.
+    ensures short { IfOk result (λ t. length (ticket.spelling t) ≤ length bytes.now) }
     // What is a ticket is read, unless memory runs out.
     ensures only { (t : Ticket) → ticket.IsDer bytes.now t → Answers TicketFault.NoMemory result (Ok t) }
     // Where the first fault is.

@@ -5,3 +5,4 @@ pub mod FieldLaws
 pub mod ArrayLaws
 pub mod ObjectLaws
 pub mod Loops
+pub mod FormLaws

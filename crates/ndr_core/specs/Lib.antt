@@ -5,3 +5,4 @@ pub mod Arrays
 pub mod Object
 pub mod Gives
 pub mod Laws
+pub mod Forms

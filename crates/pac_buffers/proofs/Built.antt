@@ -1,14 +1,13 @@
 -- The PACs that are built.
-use Rattle.std.proofs.Common.{◌≡◌, ℕ, ◌+◌, ◌<◌, ◌≤◌, ◌^◌, ◌⊎◌, inl, inr, ℤ, pos, to_z, of_z, Bool, true, false, cond, List, [], ◌∷◌, ◌++◌, length, replicate, Option, Some, None, Bor, refl, sym, ap, ◌∙◌, arith}
+use Rattle.std.proofs.Common.{◌≡◌, ℕ, ◌+◌, ◌-◌, ◌<◌, ◌≤◌, ◌^◌, ◌⊎◌, inl, inr, ℤ, pos, to_z, of_z, Bool, true, false, cond, List, [], ◌∷◌, ◌++◌, length, replicate, Option, Some, None, Bor, refl, sym, ap, ◌∙◌, arith}
 use Rattle.std.specs.Prelude.{IfSome, is_some, option_map}
 use Rattle.std.specs.Bool.{then_some}
-use Rattle.std.specs.Option.{ForSome}
 use Rattle.std.specs.Int.{w32, to_le_bytes}
 use Rattle.ndr_core.specs.Fields.{gap}
 use Rattle.ndr_core.specs.Object.{padded}
 use Rattle.pac_buffers.specs.Container.{list_end}
 use Rattle.pac_buffers.specs.Signature.{natural}
-use Rattle.pac_buffers.specs.Buffers.{Buffer, contents, pac, if_there, built, IsSound}
+use Rattle.pac_buffers.specs.Buffers.{Buffer, contents, pac, if_there, built, size_of, IsSound}
 use Rattle.pac_buffers.proofs.Entries.{length-contents, length-padded, length-pac}
 
 padded_most : (x : List ℕ) → length (padded x) ≤ length x + 8
@@ -27,16 +26,25 @@ contents_most (b ∷ bs) = omega (arith, length-contents b bs, padded_most b.con
 pac_short : (bs : List Buffer) → list_end (length bs) + room bs < 2 ^ 32 → length (pac bs) < 2 ^ 32
 pac_short bs few = omega (arith, length-pac bs, contents_most bs)
 
+pub built_is_sound : (logon client : List ℕ) (delegation : Option (List ℕ)) (ticket : Bool) (server realm : ℤ) → length logon + length client + size_of delegation < 2 ^ 32 - 256
+    → IsSound (built logon client delegation ticket server realm)
+built_is_sound logon client None false server realm few =
+    record { short = pac_short (built logon client None false server realm) (omega arith); small = refl; distinct = refl; needed = refl; signed = refl }
+built_is_sound logon client None true server realm few =
+    record { short = pac_short (built logon client None true server realm) (omega arith); small = refl; distinct = refl; needed = refl; signed = refl }
+built_is_sound logon client (Some d) false server realm few =
+    record { short = pac_short (built logon client (Some d) false server realm) (omega arith); small = refl; distinct = refl; needed = refl; signed = refl }
+built_is_sound logon client (Some d) true server realm few =
+    record { short = pac_short (built logon client (Some d) true server realm) (omega arith); small = refl; distinct = refl; needed = refl; signed = refl }
+
+-- the same for callers that know a bound of each
+pub few_together : (logon client : List ℕ) (delegation : Option (List ℕ)) → length logon < 2 ^ 30 → length client < 2 ^ 30 → IfSome delegation (λ x. length x < 2 ^ 30) → length logon + length client + size_of delegation < 2 ^ 32 - 256
+few_together logon client None first second third = omega arith
+few_together logon client (Some d) first second third = omega arith
+
 pub built_sound : (logon client : List ℕ) (delegation : Option (List ℕ)) (ticket : Bool) (server realm : ℤ) → length logon < 2 ^ 30 → length client < 2 ^ 30 → IfSome delegation (λ x. length x < 2 ^ 30)
     → IsSound (built logon client delegation ticket server realm)
-built_sound logon client None false server realm first second third =
-    record { short = pac_short (built logon client None false server realm) (omega arith); small = refl; distinct = refl; needed = refl; signed = refl }
-built_sound logon client None true server realm first second third =
-    record { short = pac_short (built logon client None true server realm) (omega arith); small = refl; distinct = refl; needed = refl; signed = refl }
-built_sound logon client (Some d) false server realm first second third =
-    record { short = pac_short (built logon client (Some d) false server realm) (omega arith); small = refl; distinct = refl; needed = refl; signed = refl }
-built_sound logon client (Some d) true server realm first second third =
-    record { short = pac_short (built logon client (Some d) true server realm) (omega arith); small = refl; distinct = refl; needed = refl; signed = refl }
+built_sound logon client delegation ticket server realm first second third = built_is_sound logon client delegation ticket server realm (few_together logon client delegation first second third)
 
 -- one buffer after the other
 abbrev pub grown : List ℕ → List ℕ → Option (List ℕ) → Bool → List ℕ → List ℕ → List Buffer
@@ -76,7 +84,3 @@ there_mapped (Some x) = refl
 pub type_again : (z : ℤ) → (z ≡ pos 15) ⊎ (z ≡ pos 16) → to_z w32 (of_z w32 z) ≡ z
 type_again z (inl e) = ap (λ y. to_z w32 (of_z w32 y)) e ∙ sym e
 type_again z (inr e) = ap (λ y. to_z w32 (of_z w32 y)) e ∙ sym e
-
-pub lent_short : (o : Option (Bor (List ℕ))) → ForSome o (λ x. length x.now < 2 ^ 30) → IfSome (option_map {T = Bor (List ℕ)} {U = List ℕ} (λ y. y.now) o) (λ x. length x < 2 ^ 30)
-lent_short None short = tt
-lent_short (Some x) short = short x refl

@@ -36,7 +36,7 @@ pub entries_again : (es : List InfoBuffer) → AllByRecursion IsEntry es → map
 entries_again [] fit = refl
 entries_again (e ∷ es) fit = rw (entry_again e fit.0, entries_again es fit.1) refl
 
-chunks_are : (es : List InfoBuffer) (rest : List ℕ) → first_chunks 16 (length es) (flat_map entry_bytes es ++ rest) ≡ map entry_bytes es
+pub chunks_are : (es : List InfoBuffer) (rest : List ℕ) → first_chunks 16 (length es) (flat_map entry_bytes es ++ rest) ≡ map entry_bytes es
 chunks_are [] rest = refl
 chunks_are (e ∷ es) rest =
     let behind : List ℕ = flat_map entry_bytes es ++ rest in

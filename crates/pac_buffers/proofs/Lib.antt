@@ -10,3 +10,7 @@ pub mod Contents
 pub mod Sums
 pub mod Drafts
 pub mod Built
+pub mod Shared
+pub mod Marks
+pub mod Ascending
+pub mod Prefixes

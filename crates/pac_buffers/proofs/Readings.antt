@@ -1,5 +1,5 @@
 -- What follows from an exact reading.
-use Rattle.std.proofs.Common.{◌≡◌, ℕ, List, Result, Ok, Err, refl, ap, subst, ◌∙◌}
+use Rattle.std.proofs.Common.{◌≡◌, ℕ, List, [], Result, Ok, Err, refl, sym, ap, subst, ◌∙◌, append-nil}
 use Rattle.std.specs.Prelude.{IfOk}
 use Rattle.kdc_prelude.specs.Answers.{Answers}
 use Rattle.ndr_core.specs.declared.fault.LogonFault.{LogonFault}
@@ -7,8 +7,10 @@ use Rattle.ndr_core.specs.declared.fault.LogonFault.TheVariants as faults
 use Rattle.ndr_core.specs.Place.{start_of}
 use Rattle.ndr_core.specs.Layout.{Layout}
 use Rattle.ndr_core.specs.Gives.{Fails, Tells}
-use Rattle.ndr_core.specs.Object.{packed, object, IsObject}
+use Rattle.ndr_core.specs.Forms.{HasOneReading, IsForm}
+use Rattle.ndr_core.specs.Object.{packed, packed_spelling, object, IsObject}
 use Rattle.ndr_core.specs.Laws.{IsBytes, IsLayout}
+use Rattle.ndr_core.proofs.FormLaws.{packed_form}
 use Rattle.ndr_core.proofs.Steps.{bind_ok, ok_is}
 use Rattle.ndr_core.proofs.ObjectLaws.{packed_found, packed_only, object_found, object_only}
 use Rattle.pac_buffers.specs.Signature.{front_of, BeginsWith}
@@ -54,3 +56,18 @@ front_is_found c bytes (Err fault) lawful fits e = tt
 
 pub front_is_only : {X : Type 0} (c : Layout X) (bytes : List ℕ) (r : Result X LogonFault) → IsLayout c → Tells (λ x. x) r (front_of c bytes) → (x : X) → BeginsWith c bytes x → Answers faults.NoMemory r (Ok x)
 front_is_only {X} c bytes r lawful given x d = told r (Ok x) (subst (λ (f : Result X LogonFault). Tells (λ x. x) r f) (front_only c bytes x lawful d) given)
+
+-- ---- the form
+
+pub front_once : {X : Type 0} (c : Layout X) → IsLayout c → HasOneReading {X = X} (BeginsWith c)
+front_once c lawful bytes x y first second = ok_is x y (sym (front_only c bytes x lawful first) ∙ front_only c bytes y lawful second)
+
+pub front_form : {X : Type 0} (c : Layout X) → IsLayout c → IsForm {X = X} c.Fits (packed_spelling c) (λ bytes x. c.IsNdr 0 bytes x) (front_of c)
+front_form c lawful =
+    let form = packed_form c lawful in
+    record {
+      spelt = form.spelt;
+      again = λ x fits short. front_only c (packed_spelling c x) x lawful (record { front = packed_spelling c x; rest = []; whole = sym (append-nil (packed_spelling c x)); is_ndr = form.spelt x fits short });
+      once = form.once;
+      prefix_free = form.prefix_free;
+    }

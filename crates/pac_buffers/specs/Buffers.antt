@@ -4,6 +4,7 @@ use Rattle.std.specs.List.{flat_map, find, list_any, list_all}
 use Rattle.std.specs.Int.{w32, w64, to_le_bytes}
 use Rattle.kdc_prelude.specs.Distinct.{all_distinct}
 use Rattle.ndr_core.specs.Object.{padded}
+use Rattle.pac_buffers.specs.declared.buffer_type.TheConstants.{LOGON_INFO, SERVER_CHECKSUM, PRIVSVR_CHECKSUM, CLIENT_INFO, DELEGATION_INFO, TICKET_CHECKSUM}
 use Rattle.pac_buffers.specs.declared.info_buffer.InfoBuffer.{InfoBuffer}
 use Rattle.pac_buffers.specs.InfoBuffers.{info_buffer}
 use Rattle.pac_buffers.specs.Container.{list_end, list_of, needed, slice_of}
@@ -52,14 +53,19 @@ if_there kind (Some content) = record { kind = kind; content = content } ∷ []
 -- logon information, client information, delegation information, server signature, KDC signature, ticket signature
 abbrev pub built : List ℕ → List ℕ → Option (List ℕ) → Bool → ℤ → ℤ → List Buffer
 built logon client delegation ticket server_type realm_type =
-    record { kind = 1; content = logon } ∷ record { kind = 10; content = client } ∷ (if_there 11 delegation
-    ++ (unsigned 6 server_type ∷ unsigned 7 realm_type ∷ (if ticket then unsigned 16 realm_type ∷ [] else [])))
+    record { kind = LOGON_INFO; content = logon } ∷ record { kind = CLIENT_INFO; content = client } ∷ (if_there DELEGATION_INFO delegation
+    ++ (unsigned SERVER_CHECKSUM server_type ∷ unsigned PRIVSVR_CHECKSUM realm_type ∷ (if ticket then unsigned TICKET_CHECKSUM realm_type ∷ [] else [])))
+
+-- how many bytes a buffer has that may be absent
+abbrev pub size_of : Option (List ℕ) → ℕ
+size_of None = 0
+size_of (Some content) = length content
 
 -- ---- signatures
 
 -- the types of signature buffers
 abbrev pub is_signature : ℕ → Bool
-is_signature kind = nat_eq kind 6 || nat_eq kind 7 || nat_eq kind 16
+is_signature kind = nat_eq kind SERVER_CHECKSUM || nat_eq kind PRIVSVR_CHECKSUM || nat_eq kind TICKET_CHECKSUM
 
 abbrev pub with_value : ℕ → List ℕ → Buffer → Buffer
 with_value kind sum b = if nat_eq b.kind kind then record { kind = b.kind; content = take 4 b.content ++ sum } else b

@@ -3,6 +3,7 @@ use Rattle.std.specs.Prelude.{ℕ, ◌+◌, ◌*◌, List, [], ◌∷◌, ◌++�
 use Rattle.std.specs.List.{list_any, find}
 use Rattle.std.specs.Int.{w32, from_le_bytes}
 use Rattle.std.specs.Simd.{first_chunks}
+use Rattle.pac_buffers.specs.declared.buffer_type.TheConstants.{LOGON_INFO, SERVER_CHECKSUM, PRIVSVR_CHECKSUM, CLIENT_INFO}
 use Rattle.pac_buffers.specs.declared.refusal.PacRefusal.{PacRefusal}
 use Rattle.pac_buffers.specs.declared.refusal.PacRefusal.TheVariants.{Truncated, Misaligned, Overlap, Twice, Missing}
 use Rattle.pac_buffers.specs.declared.info_buffer.InfoBuffer.{InfoBuffer}
@@ -44,7 +45,7 @@ first_missing (kind ∷ kinds) list = if has_kind kind list then first_missing k
 
 -- the types that each PAC has: logon information, server and KDC signature, client information
 abbrev pub needed : List ℕ
-needed = 1 ∷ 6 ∷ 7 ∷ 10 ∷ []
+needed = LOGON_INFO ∷ SERVER_CHECKSUM ∷ PRIVSVR_CHECKSUM ∷ CLIENT_INFO ∷ []
 
 abbrev pub or_missing : Option ℕ → Option PacRefusal
 or_missing None = None

@@ -1,6 +1,8 @@
 pub mod InfoBuffers
 pub mod Container
 pub mod Places
+pub mod SharedBytes
+pub mod Kinds
 pub mod Signature
 pub mod Requestor
 pub mod Delegation

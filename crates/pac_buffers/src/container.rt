@@ -1,14 +1,16 @@
 //! A PAC with room for its signatures (MS-PAC 2.3, 2.8).
 
-ghost use Rattle.std.specs.Prelude.{◌≡◌, ◌<◌, ◌≤◌, ◌+◌, ◌^◌, ◌⊎◌, ◌++◌, ◌&&◌, pos, true, length, take, drop, replicate, option_map, IfOk, IfSome, if◌then◌else◌};
+ghost use Rattle.std.specs.Prelude.{◌≡◌, ◌<◌, ◌≤◌, ◌+◌, ◌-◌, ◌^◌, ◌⊎◌, ◌++◌, ◌&&◌, pos, true, length, take, drop, replicate, option_map, IfOk, IfSome, if◌then◌else◌};
 ghost use Rattle.std.specs.Bool.{OnTrue, OnFalse};
 ghost use Rattle.std.specs.Int.{w32, to_le_bytes};
-ghost use Rattle.std.specs.Option.{ForSome};
 ghost use Rattle.pac_buffers.specs.Container.{entry_of};
 ghost use Rattle.pac_buffers.specs.Places.{place_of};
 ghost use Rattle.pac_buffers.specs.Signature.{natural};
-ghost use Rattle.pac_buffers.specs.Buffers.{pac, built, with_sum, is_signature, has_buffer, IsSound};
+ghost use Rattle.pac_buffers.specs.Buffers.{pac, built, size_of, with_sum, is_signature, has_buffer, IsSound};
 
+use crate::buffer_type::{
+    CLIENT_INFO, DELEGATION_INFO, LOGON_INFO, PRIVSVR_CHECKSUM, SERVER_CHECKSUM, TICKET_CHECKSUM,
+};
 use crate::draft::Draft;
 use crate::view::PacView;
 use std::alloc::{AllocError, Global};
@@ -45,7 +47,7 @@ fn unsigned(sum_type: i32) -> [u8; 16]
 fn is_signature(kind: u32) -> bool
     ensures { result ≡ is_signature kind }
 {
-    kind == 6 || kind == 7 || kind == 16
+    kind == SERVER_CHECKSUM || kind == PRIVSVR_CHECKSUM || kind == TICKET_CHECKSUM
 }
 
 /// Writes a checksum in the place of the bytes that stand here.
@@ -73,9 +75,7 @@ fn spelt(
     server_type: i32,
     realm_type: i32,
 ) -> Result<Vec<u8>, AllocError>
-    requires logon { length logon.now < 2 ^ 30 }
-    requires client { length client.now < 2 ^ 30 }
-    requires delegation { ForSome delegation (λ x. length x.now < 2 ^ 30) }
+    requires few { length logon.now + length client.now + size_of (option_map (λ x. x.now) delegation) < 2 ^ 32 - 256 }
     requires server { (server_type ≡ pos 15) ⊎ (server_type ≡ pos 16) }
     requires realm { (realm_type ≡ pos 15) ⊎ (realm_type ≡ pos 16) }
     ensures { IfOk result (λ bytes. bytes.items ≡ pac (built logon.now client.now (option_map (λ x. x.now) delegation.entry) ticket server_type realm_type)) }
@@ -83,19 +83,20 @@ fn spelt(
     let server = unsigned(server_type);
     let realm = unsigned(realm_type);
     let mut draft = Draft::new(alloc, count_of(delegation.is_some(), ticket))?;
-    draft.add(1, logon)?;
-    draft.add(10, client)?;
-    draft.add_if(11, delegation)?;
-    draft.add(6, &server)?;
-    draft.add(7, &realm)?;
-    draft.add_if(16, ticket.then_some(realm.as_slice()))?;
+    draft.add(LOGON_INFO, logon)?;
+    draft.add(CLIENT_INFO, client)?;
+    draft.add_if(DELEGATION_INFO, delegation)?;
+    draft.add(SERVER_CHECKSUM, &server)?;
+    draft.add(PRIVSVR_CHECKSUM, &realm)?;
+    draft.add_if(TICKET_CHECKSUM, ticket.then_some(realm.as_slice()))?;
     draft.finish()
 }
 
 impl Pac {
     /// The PAC of this logon information (type 1), client information (10), delegation information (11), and of a
     /// server (6), a KDC (7) and, for a service ticket, a ticket signature (16), which are still zero. The first
-    /// checksum type is the server key's, the other the key distribution centre's.
+    /// checksum type is the server key's, the other the key distribution centre's. What is given has room for the list,
+    /// the signatures and the zeros between, so that the whole is below 2^32 bytes.
     pub fn build(
         alloc: Global,
         logon: &[u8],
@@ -105,9 +106,7 @@ impl Pac {
         server_type: i32,
         realm_type: i32,
     ) -> Result<Pac, AllocError>
-        requires logon { length logon.now < 2 ^ 30 }
-        requires client { length client.now < 2 ^ 30 }
-        requires delegation { ForSome delegation (λ x. length x.now < 2 ^ 30) }
+        requires few { length logon.now + length client.now + size_of (option_map (λ x. x.now) delegation) < 2 ^ 32 - 256 }
         requires server { (server_type ≡ pos 15) ⊎ (server_type ≡ pos 16) }
         requires realm { (realm_type ≡ pos 15) ⊎ (realm_type ≡ pos 16) }
         ensures ok { IfOk result (λ pac. pac ≡ built logon.now client.now (option_map (λ x. x.now) delegation.entry) ticket server_type realm_type) }

@@ -1,13 +1,16 @@
 //! Questions about a PAC's list of buffers, 16 bytes an entry (MS-PAC 2.3).
 
-ghost use Rattle.std.specs.Prelude.{◌≡◌, ◌/◌, [], true, false, length, option_map, MatchOption};
+ghost use Rattle.std.specs.Prelude.{◌≡◌, ◌/◌, ◌<◌, ◌^◌, true, false, length, option_map, MatchOption};
 ghost use Rattle.std.specs.Option.{option_copied};
 ghost use Rattle.std.specs.Simd.{first_chunks};
 ghost use Rattle.std.specs.List.{find};
-ghost use Rattle.pac_buffers.specs.InfoBuffers.{info_buffer, is_kind, leaves, is_misaligned, meets_list, share_byte};
-ghost use Rattle.pac_buffers.specs.Container.{any_entry, has_kind, overlap, first_twice, first_missing, needed, is_listed, list_of, buffers_fault};
+ghost use Rattle.pac_buffers.specs.InfoBuffers.{info_buffer, is_kind, leaves, is_misaligned, meets_list};
+ghost use Rattle.pac_buffers.specs.Container.{any_entry, has_kind, first_missing, needed, is_listed, list_of, buffers_fault};
 
+use crate::buffer_type::{CLIENT_INFO, LOGON_INFO, PRIVSVR_CHECKSUM, SERVER_CHECKSUM};
 use crate::info_buffer::InfoBuffer;
+use crate::kinds::first_twice;
+use crate::overlap::two_share_byte;
 use crate::refusal::PacRefusal;
 
 /// Whether a buffer leaves the PAC, which has `len` bytes.
@@ -38,51 +41,18 @@ pub fn has_kind(list: &[[u8; 16]], kind: u32) -> bool
     list.iter().any(|raw| InfoBuffer::read(raw).kind == kind)
 }
 
-fn any_shares_byte(list: &[[u8; 16]], buffer: InfoBuffer) -> bool
-    ensures { result ≡ any_entry (share_byte buffer) list.now }
-{
-    list.iter()
-        .any(|raw| buffer.shares_byte(InfoBuffer::read(raw)))
-}
-
-/// Whether two buffers have a byte in common.
-pub fn two_share_byte(list: &[[u8; 16]]) -> bool
-    ensures { result ≡ overlap [] list.now }
-{
-    for i in 0..list.len() {
-        let buffer = InfoBuffer::read(&list[i]);
-        if any_shares_byte(&list[..i], buffer) {
-            return true;
-        }
-    }
-    false
-}
-
-/// The first type that is listed again.
-pub fn first_twice(list: &[[u8; 16]]) -> Option<u32>
-    ensures { result ≡ first_twice [] list.now }
-{
-    for i in 0..list.len() {
-        let kind = InfoBuffer::read(&list[i]).kind;
-        if has_kind(&list[..i], kind) {
-            return Some(kind);
-        }
-    }
-    None
-}
-
 /// The first needed type that is not listed.
 pub fn first_missing(list: &[[u8; 16]]) -> Option<u32>
     ensures { result ≡ first_missing needed list.now }
 {
-    if !has_kind(list, 1) {
-        Some(1)
-    } else if !has_kind(list, 6) {
-        Some(6)
-    } else if !has_kind(list, 7) {
-        Some(7)
-    } else if !has_kind(list, 10) {
-        Some(10)
+    if !has_kind(list, LOGON_INFO) {
+        Some(LOGON_INFO)
+    } else if !has_kind(list, SERVER_CHECKSUM) {
+        Some(SERVER_CHECKSUM)
+    } else if !has_kind(list, PRIVSVR_CHECKSUM) {
+        Some(PRIVSVR_CHECKSUM)
+    } else if !has_kind(list, CLIENT_INFO) {
+        Some(CLIENT_INFO)
     } else {
         None
     }
@@ -129,6 +99,7 @@ pub fn list_in(bytes: &[u8]) -> Option<&[[u8; 16]]>
 
 /// What is wrong with the list of a PAC that has `len` bytes.
 pub fn fault(list: &[[u8; 16]], len: usize) -> Option<PacRefusal>
+    requires { len < 2 ^ 32 }
     ensures { result ≡ buffers_fault len list.now }
 {
     if any_leaves(list, len) {
@@ -137,7 +108,7 @@ pub fn fault(list: &[[u8; 16]], len: usize) -> Option<PacRefusal>
     if any_misaligned(list) {
         return Some(PacRefusal::Misaligned);
     }
-    if any_meets_list(list, 8 + 16 * list.len() as u128) || two_share_byte(list) {
+    if any_meets_list(list, 8 + 16 * list.len() as u128) || two_share_byte(list, len) {
         return Some(PacRefusal::Overlap);
     }
     if let Some(kind) = first_twice(list) {

@@ -2,16 +2,20 @@
 
 ghost use Rattle.std.specs.Prelude.{◌≡◌, ◌<◌, ◌≤◌, ◌^◌, length, Ok, All};
 ghost use Rattle.krb_names.specs.Utf16.{utf16le_text};
+ghost use Rattle.ndr_core.specs.Forms.{IsObjectForm};
 ghost use Rattle.ndr_core.specs.Object.{object, spelling, IsObject};
 ghost use Rattle.pac_logon.specs.Logon.{logon, IsDomainSid, IsWritable};
 
 use crate::logon_info::LogonInfo;
 use krb_names::Sid;
 
-/// What is written is logon information, and is read again.
+/// What is written is logon information, and is read again; bytes have at most one reading, and none are a proper
+/// prefix of others.
 pub fn keeps_laws()
     ensures ok { (info : LogonInfo) → IsWritable info → IsObject logon (spelling logon info) info }
-    ensures value { (info : LogonInfo) → IsWritable info → object logon (spelling logon info) ≡ Ok info }
+    ensures exact { (info : LogonInfo) → IsWritable info → object logon (spelling logon info) ≡ Ok info }
+    // Of all that is spelt in fewer than 2^31 bytes.
+    ensures form { IsObjectForm logon }
 {}
 
 /// The widths of its numbers.

@@ -1,4 +1,3 @@
-pub mod Texts
 pub mod Covered
 pub mod Signatures
 pub mod Verifies

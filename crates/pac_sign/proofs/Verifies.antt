@@ -15,14 +15,14 @@ use Rattle.pac_buffers.specs.Buffers.{Buffer, pac, with_sum, content_of, is_sign
 use Rattle.std.specs.Prelude.{nat_eq, ◌||◌}
 use Rattle.std.proofs.lemmas.Bool.{eqb-false}
 use Rattle.pac_buffers.proofs.Lists.{not_first, not_second}
-use Rattle.pac_buffers.proofs.Built.{built_sound}
+use Rattle.pac_buffers.proofs.Built.{built_is_sound}
 use Rattle.pac_buffers.proofs.Contents.{buffer_is}
 use Rattle.pac_buffers.proofs.Sums.{sum_sound, wholes}
 use Rattle.pac_sign.specs.Sums.{sum_type, sum_of, covered}
 use Rattle.pac_sign.specs.Signed.{cleared, server_sum, with_server, signed}
 use Rattle.pac_sign.specs.Verified.{value_for, is_value, server_holds, kdc_holds, ticket_holds}
 use Rattle.pac_sign.specs.Laws.{type_of, IsFor, SignedIsSound, OthersStay, SignedVerifies, BuiltVerifies}
-use Rattle.pac_sign.proofs.Texts.{text_itself}
+use Rattle.krb_crypto.proofs.Texts.{text_itself}
 use Rattle.pac_sign.proofs.Covered.{covered_is}
 use Rattle.pac_sign.proofs.Signatures.{content_own, content_other, signature_whole, sum_twice, sums_commute, value_is}
 
@@ -155,9 +155,9 @@ built_for server realm (Some part) None logon client = record { server_type = ap
 built_for server realm (Some part) (Some d) logon client = record { server_type = ap Some (type_built server.etype 6); kdc_type = ap Some (type_built realm.etype 7); ticket_type = ap Some (type_built realm.etype 16) }
 
 pub built_right : BuiltVerifies
-built_right server realm part delegation logon client first second third =
+built_right server realm part delegation logon client few =
     let bs : List Buffer = built logon client delegation (is_some part) (pos (sum_type server.etype)) (pos (sum_type realm.etype)) in
-    signed_right server realm part bs (built_sound logon client delegation (is_some part) (pos (sum_type server.etype)) (pos (sum_type realm.etype)) first second third) (built_for server realm part delegation logon client)
+    signed_right server realm part bs (built_is_sound logon client delegation (is_some part) (pos (sum_type server.etype)) (pos (sum_type realm.etype)) few) (built_for server realm part delegation logon client)
 
 -- ---- the other buffers
 

@@ -1,8 +1,8 @@
 -- What was signed verifies.
-use Rattle.std.specs.Prelude.{◌≡◌, ℕ, ◌<◌, ◌^◌, pos, List, length, false, Option, Some, Ok, IfSome, is_some, option_map}
+use Rattle.std.specs.Prelude.{◌≡◌, ℕ, ◌+◌, ◌-◌, ◌<◌, ◌^◌, pos, List, length, false, Option, Some, Ok, IfSome, is_some, option_map}
 use Rattle.std.specs.Int.{w32, from_le_bytes}
 use Rattle.krb_names.specs.declared.key.Key.{Key}
-use Rattle.pac_buffers.specs.Buffers.{Buffer, pac, built, content_of, is_signature, IsSound}
+use Rattle.pac_buffers.specs.Buffers.{Buffer, pac, built, size_of, content_of, is_signature, IsSound}
 use Rattle.pac_sign.specs.Sums.{sum_type}
 use Rattle.pac_sign.specs.Signed.{signed}
 use Rattle.pac_sign.specs.Verified.{verified}
@@ -30,5 +30,5 @@ SignedVerifies = (server realm : Key) (part : Option (List ℕ)) (bs : List Buff
 
 -- the same for a PAC as it is built
 abbrev pub BuiltVerifies : Type 0
-BuiltVerifies = (server realm : Key) (part delegation : Option (List ℕ)) (logon client : List ℕ) → length logon < 2 ^ 30 → length client < 2 ^ 30 → IfSome delegation (λ x. length x < 2 ^ 30)
+BuiltVerifies = (server realm : Key) (part delegation : Option (List ℕ)) (logon client : List ℕ) → length logon + length client + size_of delegation < 2 ^ 32 - 256
     → verified server (Some realm) part (pac (signed server realm part (built logon client delegation (is_some part) (pos (sum_type server.etype)) (pos (sum_type realm.etype))))) ≡ Ok tt

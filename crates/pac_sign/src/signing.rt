@@ -7,7 +7,7 @@ ghost use Rattle.pac_sign.specs.Signed.{server_sum, with_ticket, signed};
 use crate::value::{USAGE, value_place};
 use krb_crypto::{mac, mac_zeroed};
 use krb_names::Key;
-use pac_buffers::Pac;
+use pac_buffers::{PRIVSVR_CHECKSUM, Pac, SERVER_CHECKSUM, TICKET_CHECKSUM};
 
 /// The checksum of a PAC with the values of its server and its KDC signature zero.
 fn server_sum(pac: &Pac, server: &Key) -> [u8; 12]
@@ -18,8 +18,8 @@ fn server_sum(pac: &Pac, server: &Key) -> [u8; 12]
         server,
         USAGE,
         bytes,
-        value_place(pac.place(6), bytes.len()),
-        value_place(pac.place(7), bytes.len()),
+        value_place(pac.place(SERVER_CHECKSUM), bytes.len()),
+        value_place(pac.place(PRIVSVR_CHECKSUM), bytes.len()),
     )
 }
 
@@ -27,7 +27,7 @@ fn sign_ticket(pac: &mut Pac, realm: &Key, part: Option<&[u8]>)
     ensures { pac.new ≡ with_ticket realm.now (option_copied part.entry) pac.old }
 {
     if let Some(part) = part {
-        let _ = pac.put(16, &mac(realm, USAGE, part));
+        let _ = pac.put(TICKET_CHECKSUM, &mac(realm, USAGE, part));
     }
 }
 
@@ -40,6 +40,6 @@ pub fn sign(pac: &mut Pac, server: &Key, realm: &Key, part: Option<&[u8]>)
 {
     sign_ticket(pac, realm, part);
     let sum = server_sum(pac, server);
-    let _ = pac.put(6, &sum);
-    let _ = pac.put(7, &mac(realm, USAGE, &sum));
+    let _ = pac.put(SERVER_CHECKSUM, &sum);
+    let _ = pac.put(PRIVSVR_CHECKSUM, &mac(realm, USAGE, &sum));
 }

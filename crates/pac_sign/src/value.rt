@@ -2,7 +2,6 @@
 
 ghost use Rattle.std.specs.Prelude.{◌≡◌, ◌≤◌, length, option_map};
 ghost use Rattle.std.specs.Option.{option_copied, ForSome};
-ghost use Rattle.kdc_prelude.specs.Texts.{same_text};
 ghost use Rattle.pac_sign.specs.Sums.{sum_type, value_place};
 ghost use Rattle.pac_sign.specs.Verified.{value_for};
 
@@ -55,18 +54,4 @@ pub fn value_for<'a>(key: &Key, content: Option<&'a [u8]>) -> Option<&'a [u8]>
         return None;
     }
     Some(&content[4..16])
-}
-
-/// Whether the shown bytes are this sum. Reads all of them wherever they differ.
-pub fn is_same_sum(sum: &[u8; 12], shown: &[u8]) -> bool
-    ensures { result ≡ same_text shown.now sum.now }
-{
-    if shown.len() != 12 {
-        return false;
-    }
-    let mut same = true;
-    for k in 0..12 {
-        same = same & (shown[k] == sum[k]);
-    }
-    same
 }

@@ -6,10 +6,10 @@ ghost use Rattle.pac_sign.specs.Sums.{sum_of, covered};
 ghost use Rattle.pac_sign.specs.Verified.{server_holds, kdc_holds, ticket_holds, verified};
 
 use crate::fault::SignFault;
-use crate::value::{USAGE, is_same_sum, value_for, value_place};
-use krb_crypto::{mac, mac_zeroed};
+use crate::value::{USAGE, value_for, value_place};
+use krb_crypto::{is_same_sum, mac, mac_zeroed};
 use krb_names::Key;
-use pac_buffers::PacView;
+use pac_buffers::{PRIVSVR_CHECKSUM, PacView, SERVER_CHECKSUM, TICKET_CHECKSUM};
 
 /// The checksum of a PAC with the values of its server and its KDC signature zero.
 #[tactic(auto, unfolding(crate::specs::Sums::covered))]
@@ -21,15 +21,15 @@ fn covered_sum(pac: &PacView, server: &Key) -> [u8; 12]
         server,
         USAGE,
         bytes,
-        value_place(pac.place(6), bytes.len()),
-        value_place(pac.place(7), bytes.len()),
+        value_place(pac.place(SERVER_CHECKSUM), bytes.len()),
+        value_place(pac.place(PRIVSVR_CHECKSUM), bytes.len()),
     )
 }
 
 fn server_holds(pac: &PacView, server: &Key) -> bool
     ensures { result ≡ server_holds server.now pac.now }
 {
-    match value_for(server, pac.buffer(6)) {
+    match value_for(server, pac.buffer(SERVER_CHECKSUM)) {
         Some(value) => is_same_sum(&covered_sum(pac, server), value),
         None => false,
     }
@@ -38,8 +38,8 @@ fn server_holds(pac: &PacView, server: &Key) -> bool
 fn kdc_holds(pac: &PacView, server: &Key, realm: &Key) -> bool
     ensures { result ≡ kdc_holds server.now realm.now pac.now }
 {
-    let sum = value_for(server, pac.buffer(6)).unwrap_or(&[]);
-    match value_for(realm, pac.buffer(7)) {
+    let sum = value_for(server, pac.buffer(SERVER_CHECKSUM)).unwrap_or(&[]);
+    match value_for(realm, pac.buffer(PRIVSVR_CHECKSUM)) {
         Some(value) => is_same_sum(&mac(realm, USAGE, sum), value),
         None => false,
     }
@@ -48,7 +48,7 @@ fn kdc_holds(pac: &PacView, server: &Key, realm: &Key) -> bool
 fn ticket_holds(pac: &PacView, realm: &Key, part: &[u8]) -> bool
     ensures { result ≡ ticket_holds realm.now part.now pac.now }
 {
-    match value_for(realm, pac.buffer(16)) {
+    match value_for(realm, pac.buffer(TICKET_CHECKSUM)) {
         Some(value) => is_same_sum(&mac(realm, USAGE, part), value),
         None => false,
     }

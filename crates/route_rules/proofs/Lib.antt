@@ -1,2 +1,3 @@
 pub mod Joined
-pub mod Realms
+pub mod ServiceNames
+pub mod Steps

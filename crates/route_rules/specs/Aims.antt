@@ -1,13 +1,13 @@
 -- What a realm aims at for the name of a server (RFC 4120, section 3.3.3): its own service or account, or a trust.
-use Rattle.std.specs.Prelude.{ℕ, ◌==◌, ◌<◌, length, Option, None, Some, option_map, unwrap_or, slice_get, if◌then◌else◌}
+use Rattle.std.specs.Prelude.{ℕ, ◌==◌, ◌<◌, length, Option, None, Some, option_map, if◌then◌else◌}
 use Rattle.krb_names.specs.declared.principal.Principal.{Principal}
 use Rattle.dir_records.specs.DirectoryValue.{DirectoryValue}
-use Rattle.dir_core.specs.Lookups.{next_hop}
-use Rattle.route_rules.specs.declared.aim.Aim.{Aim}
-use Rattle.route_rules.specs.declared.aim.Aim.TheVariants.{Krbtgt, Hop, Account}
+use Rattle.dir_core.specs.Lookups.{accounts_at, next_hop, trusts_at}
+use Rattle.kdc_records.specs.declared.decision.Aim.{Aim}
+use Rattle.kdc_records.specs.declared.decision.Aim.TheVariants.{Krbtgt, Hop, Account}
 use Rattle.route_rules.specs.declared.meaning.Meaning.{Meaning}
 use Rattle.route_rules.specs.declared.meaning.Meaning.TheVariants.{RealmAt, AccountAt}
-use Rattle.route_rules.specs.Meanings.{account_count, meaning}
+use Rattle.route_rules.specs.Meanings.{meaning}
 
 -- another realm is aimed at by the first trust that leads there
 abbrev pub hop_to : DirectoryValue → ℕ → ℕ → Option Aim
@@ -20,7 +20,7 @@ aim_at dir realm (Some (RealmAt other)) = if other == realm then Some Krbtgt els
 aim_at dir realm (Some (AccountAt other at)) = if other == realm then Some (Account at) else hop_to dir realm other
 
 -- what the realm at an index aims at for a name
-abbrev pub resolve : DirectoryValue → ℕ → Principal → Option Aim
+unfoldable pub resolve : DirectoryValue → ℕ → Principal → Option Aim
 resolve dir realm name = aim_at dir realm (meaning dir realm name)
 
 -- the account that is meant, if it is one
@@ -33,12 +33,8 @@ place_meant (Some (AccountAt realm at)) = Some (realm, at)
 abbrev pub resolve_account : DirectoryValue → ℕ → Principal → Option (ℕ × ℕ)
 resolve_account dir realm name = place_meant (meaning dir realm name)
 
--- how many trusts the realm at an index has; 0 where there is no realm
-abbrev pub trust_count : DirectoryValue → ℕ → ℕ
-trust_count dir realm = unwrap_or (option_map (λ found. length found.trusts) (slice_get dir.realms realm)) 0
-
 -- the realm at an index has what it aims at
 abbrev pub HasAim : DirectoryValue → ℕ → Aim → Type 0
 HasAim dir realm Krbtgt = realm < length dir.realms
-HasAim dir realm (Hop at) = at < trust_count dir realm
-HasAim dir realm (Account at) = at < account_count dir realm
+HasAim dir realm (Hop at) = at < length (trusts_at dir realm)
+HasAim dir realm (Account at) = at < length (accounts_at dir realm)

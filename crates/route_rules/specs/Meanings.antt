@@ -1,11 +1,11 @@
 -- What the name of a server means in a realm (RFC 4120, sections 6.2 and 7.3; which account a name gives is an own choice).
-use Rattle.std.specs.Prelude.{ℕ, ℤ, pos, negsuc, nat_eq, ◌<◌, Bool, false, List, [], ◌∷◌, length, codes, Option, None, Some, option_map, unwrap_or, slice_get, if◌then◌else◌}
+use Rattle.std.specs.Prelude.{ℕ, ℤ, pos, negsuc, nat_eq, ◌<◌, Bool, false, List, [], ◌∷◌, length, codes, Option, None, Some, option_map, if◌then◌else◌}
 use Rattle.std.specs.List.{join_with_byte}
 use Rattle.kdc_prelude.specs.Texts.{same_text}
 use Rattle.krb_names.specs.declared.principal.Principal.{Principal}
 use Rattle.krb_names.specs.Principals.{round_last_at}
 use Rattle.dir_records.specs.DirectoryValue.{DirectoryValue}
-use Rattle.dir_core.specs.Lookups.{place_in, realm_named, spn_place}
+use Rattle.dir_core.specs.Lookups.{accounts_at, place_in, realm_named, spn_place}
 use Rattle.route_rules.specs.declared.meaning.Meaning.{Meaning}
 use Rattle.route_rules.specs.declared.meaning.Meaning.TheVariants.{RealmAt, AccountAt}
 
@@ -47,13 +47,9 @@ meaning_of_parts dir realm kind (first ∷ second ∷ third ∷ fourth ∷ more)
 abbrev pub meaning : DirectoryValue → ℕ → Principal → Option Meaning
 meaning dir realm name = meaning_of_parts dir realm name.kind name.parts
 
--- how many accounts the realm at an index has; 0 where there is no realm
-abbrev pub account_count : DirectoryValue → ℕ → ℕ
-account_count dir realm = unwrap_or (option_map (λ found. length found.accounts) (slice_get dir.realms realm)) 0
-
 -- the directory has this account
 abbrev pub HasAccount : DirectoryValue → ℕ → ℕ → Type 0
-HasAccount dir realm at = (realm < length dir.realms) × (at < account_count dir realm)
+HasAccount dir realm at = (realm < length dir.realms) × (at < length (accounts_at dir realm))
 
 -- the directory has what is meant
 abbrev pub HasMeant : DirectoryValue → Meaning → Type 0

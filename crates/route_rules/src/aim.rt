@@ -4,25 +4,15 @@ ghost use Rattle.route_rules.specs.Aims.{HasAim, hop_to, resolve, resolve_accoun
 ghost use Rattle.route_rules.specs.Meanings.{HasAccount};
 
 use crate::meaning::{Meaning, read_meaning};
-use dir_core::Directory;
+use dir_core::{Aim, Directory};
 use krb_names::Principal;
-
-/// What the server's name of a request aims at.
-#[derive(Clone, Copy, Debug, PartialEq, Eq)]
-pub enum Aim {
-    /// This realm's own ticket-granting service.
-    Krbtgt,
-    /// The trust of this realm at this index, which leads to the realm that is named, or to that of the account.
-    Hop(u32),
-    /// The account of this realm at this index.
-    Account(u32),
-}
 
 /// What the name aims at in the realm at an index. The parts `krbtgt`, C name the ticket-granting service of realm C; a
 /// name of kind 10 (NT-ENTERPRISE) with one part `a@C`, cut at its last `@`, the account a of C; any other part alone
 /// the account of this realm of that name; two or three parts, joined by `/`, the account that has this service
 /// principal name, in the whole directory. What is of another realm is aimed at by the first trust that leads there.
 /// Nothing where none does, or where there is no such realm or account. The realm beside the name plays no part.
+#[tactic(auto, unfolding(crate::specs::Aims::resolve))]
 pub fn resolve(dir: &Directory, realm: u32, name: &Principal) -> Option<Aim>
     requires { realm < length dir.now.realms }
     ensures found { result ≡ resolve dir.now realm name.now }

@@ -4,9 +4,11 @@
 mod aim;
 mod laws;
 mod meaning;
+mod requestor;
 mod services;
 #[cfg(test)]
 mod tests;
 
-pub use aim::{Aim, resolve, resolve_account};
+pub use aim::{resolve, resolve_account};
 pub use laws::names_keep_laws;
+pub use requestor::requestor_account;

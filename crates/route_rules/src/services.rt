@@ -1,63 +1,69 @@
 //! The account that has a service principal name which is told in parts.
-ghost use Rattle.std.specs.Prelude.{◌≡◌, ◌≢◌, ◌∷◌, ◌++◌, ◌<◌, ℕ, IfSome, List, MatchOption, length, position};
+ghost use Rattle.std.specs.Prelude.{◌≡◌, ◌++◌, ◌+◌, ◌<◌, ◌≤◌, ℕ, IfNone, IfSome, List, None, length, take};
 ghost use Rattle.std.specs.List.{join_with_byte};
-ghost use Rattle.kdc_prelude.specs.Texts.{same_text};
-ghost use Rattle.dir_core.specs.Lookups.{has_spn, spn_place};
+ghost use Rattle.std.specs.Str.{IsUtf8};
+ghost use Rattle.dir_core.specs.Lookups.{spn_place};
 ghost use Rattle.route_rules.specs.Meanings.{HasAccount};
 
-use dir_core::{Account, Directory};
+use dir_core::Directory;
 use krb_names::Text;
+use std::str;
+
+/// As long as a service principal name of a directory can be: three pieces of at most 255 bytes, and the slashes
+/// between them.
+const LONGEST_SPN: usize = 767;
 
 /// Where the account stands that has the parts, joined by `/`, as a service principal name.
 pub(crate) fn place_of_service(dir: &Directory, parts: &[Text]) -> Option<(u32, u32)>
     ensures found { result ≡ spn_place dir.now (join_with_byte 47 parts.now) }
     ensures within { IfSome result (λ place. HasAccount dir.now place.0 place.1) }
 {
-    for realm in 0..dir.realm_count() {
-        if let Some(account) = place_in_accounts(dir.realm(realm).accounts.as_slice(), parts) {
-            return Some((realm, account as u32));
-        }
+    let mut buffer = [0; LONGEST_SPN];
+    spns_are_short(dir);
+    let end = put_joined(&mut buffer, 0, parts)?;
+    match str::from_utf8(&buffer[..end]) {
+        Ok(spn) => dir.account_by_spn(spn),
+        Err(_) => unreachable!(),
     }
-    None
 }
 
-fn place_in_accounts(accounts: &[Account], parts: &[Text]) -> Option<usize>
-    ensures place { result ≡ position (has_spn (join_with_byte 47 parts.now)) accounts.now }
-    ensures within { IfSome result (λ place. place < length accounts.now) }
+/// No account of a directory has a longer service principal name.
+fn spns_are_short(dir: &Directory)
+    ensures { (spn : List ℕ) → 767 < length spn → spn_place dir.now spn ≡ None }
 {
-    accounts
-        .iter()
-        .position(|account| has_service(account, parts))
+    dir.realm_count();
 }
 
-/// Whether the account has the parts, joined by `/`, as a service principal name.
-fn has_service(account: &Account, parts: &[Text]) -> bool
-    ensures { result ≡ has_spn (join_with_byte 47 parts.now) account.now }
-{
-    account
-        .spns
-        .as_slice()
-        .iter()
-        .any(|spn| is_joined(parts, spn.as_str().as_bytes()))
-}
-
-/// Whether the parts, joined by `/`, are these bytes.
-fn is_joined(parts: &[Text], bytes: &[u8]) -> bool
-    ensures { result ≡ same_text (join_with_byte 47 parts.now) bytes.now }
+/// Puts the parts, joined by `/`, behind the first bytes of a buffer, and gives how many there are then, if they fit.
+fn put_joined(buffer: &mut [u8], end: usize, parts: &[Text]) -> Option<usize>
+    requires { end ≤ length buffer.old }
+    ensures found { IfSome result (λ end_now. (end_now ≤ length buffer.new) × (take end_now buffer.new ≡ take end buffer.old ++ join_with_byte 47 parts.now)) }
+    ensures cause { IfNone result (length buffer.old < end + length (join_with_byte 47 parts.now)) }
+    ensures text { IfSome result (λ _. IsUtf8 (join_with_byte 47 parts.now)) }
 {
     match parts {
-        [] => bytes.is_empty(),
-        [part] => part.as_str().as_bytes() == bytes,
-        [part, others @ ..] => match after_part(part.as_str(), bytes) {
-            Some(rest) => is_joined(others, rest),
-            None => false,
-        },
+        [] => Some(end),
+        [part] => put(buffer, end, part.as_str()),
+        [part, others @ ..] => {
+            let behind_part = put(buffer, end, part.as_str())?;
+            let behind_slash = put(buffer, behind_part, "/")?;
+            put_joined(buffer, behind_slash, others)
+        }
     }
 }
 
-/// The bytes behind the part and a `/`, where these begin with them.
-fn after_part<'a>(part: &str, bytes: &'a [u8]) -> Option<&'a [u8]>
-    ensures exact { MatchOption result ((rest : List ℕ) → bytes.now ≢ part.now ++ (47 ∷ rest)) (λ rest. bytes.now ≡ part.now ++ (47 ∷ rest.now)) }
+/// Puts a text behind the first bytes of a buffer, and gives how many there are then, if it fits.
+fn put(buffer: &mut [u8], end: usize, text: &str) -> Option<usize>
+    requires { end ≤ length buffer.old }
+    ensures found { IfSome result (λ end_now. (end_now ≤ length buffer.new) × (take end_now buffer.new ≡ take end buffer.old ++ text.now)) }
+    ensures cause { IfNone result (length buffer.old < end + length text.now) }
+    ensures text { IsUtf8 text.now }
 {
-    bytes.strip_prefix(part.as_bytes())?.strip_prefix(b"/")
+    let text = text.as_bytes();
+    if buffer.len() - end < text.len() {
+        return None;
+    }
+    let end_now = end + text.len();
+    buffer[end..end_now].copy_from_slice(text);
+    Some(end_now)
 }

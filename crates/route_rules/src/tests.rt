@@ -1,6 +1,6 @@
 //! Names over three realms, with what they aim at and the account that they give.
 use crate::*;
-use dir_core::{Account, Directory, KeyRec, RealmRec, Trust};
+use dir_core::{Account, Aim, Directory, KeyRec, RealmRec, Trust};
 use krb_names::{Etype, Items, Key, Principal, Text, parse_realm, parse_sid};
 use std::process::Abort;
 

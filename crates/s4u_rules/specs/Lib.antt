@@ -1,3 +1,4 @@
 pub mod AskClassic
 pub mod AskSelf
+pub mod Conditions
 pub mod Outcomes

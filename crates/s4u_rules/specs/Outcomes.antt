@@ -1,28 +1,15 @@
--- Answers to questions, and what they ask of accounts.
-use Rattle.std.specs.Prelude.{Bool, true, false, not, Option, None, Some, is_some}
-use Rattle.dir_records.specs.declared.records.Account.{Account}
-use Rattle.dir_core.specs.declared.rule.Rule.{Rule}
+-- Answers to questions.
+use Rattle.std.specs.Prelude.{◌≡◌, Bool, true, false, Option, None, Some, Result, MatchResult}
+use Rattle.kdc_records.specs.declared.rule.Rule.{Rule}
 use Rattle.s4u_rules.specs.declared.asked.Asked.{Asked}
 use Rattle.s4u_rules.specs.declared.asked.Asked.TheVariants.{Forwardable, Allowed, Deny}
-
--- there is an account
-abbrev pub is_account : Option Account → Bool
-is_account account = is_some account
-
--- there is an account, and it passes the test
-abbrev pub is_account_with : (Account → Bool) → Option Account → Bool
-is_account_with test None = false
-is_account_with test (Some account) = test account
-
-abbrev pub is_enabled : Account → Bool
-is_enabled account = not account.disabled
-
--- the account is not marked DelegationNotAllowed (MS-SFU)
-abbrev pub may_be_delegated : Account → Bool
-may_be_delegated account = not account.not_delegated
 
 -- the rule that denies, or else what is granted
 abbrev pub outcome : Option Rule → Bool → Asked
 outcome (Some rule) forwardable = Deny rule
 outcome None true = Forwardable
 outcome None false = Allowed
+
+-- an error is this rule, and where there is none no rule denies
+abbrev pub IsVerdict : {T : Type 0} → Result T Rule → Option Rule → Type 0
+IsVerdict result first = MatchResult result (λ _. first ≡ None) (λ rule. first ≡ Some rule)

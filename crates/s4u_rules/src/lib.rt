@@ -3,6 +3,7 @@
 
 mod asked;
 mod classic_question;
+mod conditions;
 mod self_question;
 
 pub use asked::Asked;

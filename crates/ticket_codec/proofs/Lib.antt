@@ -1,6 +1,10 @@
 pub mod PartTexts
-pub mod Presents
 pub mod PartBytes
 pub mod Sealed
+pub mod Denials
+pub mod Presents
+pub mod Steps
+pub mod FirstRules
+pub mod Holders
 pub mod Shown
 pub mod Makes

@@ -11,8 +11,8 @@ use Rattle.krb_names.specs.Etypes.{etype_number}
 use Rattle.krb_tickets.specs.Ticket.{ticket}
 use Rattle.ticket_laws.specs.Writable.{IsWritableTicket}
 use Rattle.ticket_laws.proofs.Tickets.{ticket_fits, ticket_is_short}
-use Rattle.ticket_records.specs.declared.holder.Holder.{Holder}
-use Rattle.ticket_records.specs.Parties.{version_of}
+use Rattle.kdc_records.specs.declared.holder.Holder.{Holder}
+use Rattle.kdc_records.specs.Parties.{version_of}
 use Rattle.ticket_codec.specs.Made.{IsTicketName, ticket_with}
 
 etype_fits : (e : Etype) → FitsSigned w32 (pos (etype_number e))

@@ -41,7 +41,7 @@ use Rattle.krb_tickets.specs.HostAddress.{host_address}
 use Rattle.krb_tickets.specs.NameString.{is_enterprise, is_joined}
 use Rattle.krb_tickets.specs.PrincipalName.{principal_name}
 use Rattle.krb_tickets.specs.Transited.{are_realms, is_realm, transited}
-use Rattle.time_laws.specs.TimeLaw.{written_again}
+use Rattle.krb_names.proofs.TimeLaw.{written_again}
 use Rattle.ticket_laws.specs.Writable.{are_parts, are_texts, is_lone_joined, IsWritableItem, IsWritablePart}
 use Rattle.ticket_laws.proofs.Bytes.{element_bytes, last}
 use Rattle.pac_laws.proofs.Bytes.{IsBytes-append, IsBytes-be, IsBytes-cons, IsBytes-nil, IsBytes-tail}

@@ -17,6 +17,10 @@ pub told_part : (r : Result EncTicketPart DerRefusal) (part : EncTicketPart) →
 told_part (Ok other) part h = cc
 told_part (Err refusal) part h = absurd (cc)
 
+pub told_whole : (r : Result EncTicketPart DerRefusal) (part : EncTicketPart) → told r ≡ Ok part → r ≡ Ok part
+told_whole (Ok other) part h = cc
+told_whole (Err refusal) part h = absurd (cc)
+
 pub told_none : (r : Result EncTicketPart DerRefusal) (fault : Malformed) → (faults.Malformed fault ≢ faults.NoMemory → told r ≡ Err (faults.Malformed fault)) → None ≡ part_read r
 told_none (Ok part) fault h = let e = h (λ e. cc) in absurd (cc)
 told_none (Err refusal) fault h = refl
@@ -43,3 +47,9 @@ range_within (Some range) key usage old new h e size =
     let start : range.start ≡ 16 = h.0 in
     let end : range.end + 12 ≡ length old = h.1 in
     (omega arith, omega arith)
+
+-- and what was sealed is 28 bytes shorter
+pub range_size : (found : Option (Range ℕ)) (old new : List ℕ) → IfSome found (λ range. (range.start ≡ 16) × (range.end + 12 ≡ length old)) → length new ≡ length old
+    → IfSome found (λ range. range.end + 28 ≡ range.start + length new)
+range_size None old new h size = tt
+range_size (Some range) old new h size = omega (arith, h.0, h.1, size)

@@ -4,6 +4,7 @@ use Rattle.std.specs.Prelude.{is_ok, slice_get}
 use Rattle.std.proofs.lemmas.Bool.{eq-eqb}
 use Rattle.aes_core.specs.Inverses.{IsBlock}
 use Rattle.kdc_prelude.specs.Answers.{or_fault}
+use Rattle.kdc_prelude.specs.Options.{holds_of}
 use Rattle.kdc_prelude.specs.Results.{◌>>=◌}
 use Rattle.krb_names.specs.declared.key.Key.{Key}
 use Rattle.krb_names.specs.Etypes.{etype_number}
@@ -13,7 +14,7 @@ use Rattle.krb_crypto.proofs.ByteSums.{bytes_below}
 use Rattle.der_core.specs.Codec.{Codec, whole}
 use Rattle.der_core.specs.CodecLaws.{alone_lawful}
 use Rattle.der_core.specs.Laws.{IsCodec}
-use Rattle.dir_core.specs.declared.rule.Rule.{Rule}
+use Rattle.kdc_records.specs.declared.rule.Rule.{Rule}
 use Rattle.dir_records.specs.declared.records.RealmRec.{RealmRec}
 use Rattle.dir_records.specs.DirectoryValue.{DirectoryValue}
 use Rattle.krb_tickets.specs.declared.enc_ticket_part.EncTicketPart.{EncTicketPart}
@@ -25,26 +26,30 @@ use Rattle.pac_buffers.specs.Buffers.{pac}
 use Rattle.pac_sign.specs.declared.fault.SignFault.{SignFault}
 use Rattle.pac_sign.specs.Verified.{verified}
 use Rattle.ticket_laws.specs.Writable.{IsWritablePart}
-use Rattle.ticket_records.specs.declared.holder.Holder.{Holder}
-use Rattle.ticket_records.specs.declared.holder.Holder.TheVariants.{Krbtgt, Trust, Account}
-use Rattle.ticket_records.specs.declared.ticket_rec.TicketRec.{TicketRec}
-use Rattle.ticket_records.specs.Parties.{version_of}
-use Rattle.ticket_parts.specs.declared.reading.Certified.{Certified}
+use Rattle.kdc_records.specs.declared.holder.Holder.{Holder}
+use Rattle.kdc_records.specs.declared.holder.Holder.TheVariants.{Krbtgt, Trust, Account}
+use Rattle.kdc_records.specs.declared.ticket_rec.TicketRec.{TicketRec}
+use Rattle.kdc_records.specs.Parties.{version_of}
+use Rattle.ticket_parts.specs.declared.reading.ReadRecord.{ReadRecord}
 use Rattle.ticket_parts.specs.Parts.{is_service, part, part_with, signed_pac}
 use Rattle.ticket_parts.specs.Records.{record_of}
 use Rattle.ticket_parts.specs.Sound.{IsSound}
 use Rattle.ticket_parts.proofs.ToldAgain.{all_verified, pac_in_part, record_back, server_verified, ticket_covers}
 use Rattle.ticket_parts.proofs.Written.{part_short, part_writable, part_written}
+use Rattle.ticket_codec.specs.declared.fault.Unopened.{Unopened}
+use Rattle.ticket_codec.specs.declared.fault.Unopened.TheVariants.{WrongKey, Unreadable}
 use Rattle.ticket_codec.specs.declared.holding.Holding.{Holding}
 use Rattle.ticket_codec.specs.declared.opening.Opened.{Opened}
+use Rattle.ticket_codec.specs.declared.presenting.Certified.{Certified}
 use Rattle.ticket_codec.specs.declared.role.Role.{Role}
-use Rattle.ticket_codec.specs.Laws.{IsRealmKey, TicketsAreShown}
+use Rattle.ticket_codec.specs.Laws.{IsRealmKey, ShownIsTold, TicketsAreShown}
 use Rattle.ticket_codec.specs.Made.{ticket_of}
-use Rattle.ticket_codec.specs.Opening.{is_for_key, opened_by, opened_of, part_in, part_of_text, part_read}
-use Rattle.ticket_codec.specs.Presented.{are_right, are_signatures_right, is_some_and, presented, realm_key, shown}
-use Rattle.ticket_codec.specs.Roles.{holding, key_rule, name_rule, opening_rule, pac_rule}
+use Rattle.ticket_codec.specs.Opening.{is_for_key, opened_by, opened_of, part_in, part_of_text, part_read, ruled}
+use Rattle.ticket_codec.specs.Presented.{are_right, are_signatures_right, certified, certified_of, presented, realm_key, shown, Shown, shown_of}
+use Rattle.ticket_codec.specs.Roles.{holding, name_rule, pac_rule}
 use Rattle.ticket_codec.proofs.PartBytes.{part_bytes}
 use Rattle.ticket_codec.proofs.Sealed.{opened_sealed}
+use Rattle.ticket_codec.proofs.Steps.{certified_is, presented_is, shown_is, shown_shows, unsealed_is}
 
 -- ---- the ticket opens
 
@@ -67,12 +72,12 @@ is_its_key key version cipher =
     let number : ℕ = etype_number key.etype in
     both_true (nat_eq version version) (nat_eq number number) (eq-eqb version version refl) (eq-eqb number number refl)
 
-opened_back : (role : Role) (ticket : Ticket) (held : Holding) (p : EncTicketPart) → is_for_key held.key ticket.sealed ≡ true → part_in held.key.key ticket.sealed.cipher ≡ Some p
-    → opened_by role ticket held ≡ Ok (opened_of held p)
-opened_back role ticket held p hk hp =
-    let after : Option EncTicketPart → Result Opened Rule = λ found. or_fault (opening_rule role) (option_map (opened_of held) found) in
-    let denied : Result Opened Rule = Err (key_rule role) in
-    ap (λ (test : Bool). cond test (after (part_in held.key.key ticket.sealed.cipher)) denied) hk ∙ ap after hp
+opened_back : (ticket : Ticket) (held : Holding) (p : EncTicketPart) → is_for_key held.key ticket.sealed ≡ true → part_in held.key.key ticket.sealed.cipher ≡ Some p
+    → opened_by ticket held ≡ Ok (opened_of held p)
+opened_back ticket held p hk hp =
+    let after : Option EncTicketPart → Result Opened Unopened = λ found. or_fault Unreadable (option_map (opened_of held) found) in
+    let other : Result Opened Unopened = Err WrongKey in
+    ap (λ (test : Bool). cond test (after (part_in held.key.key ticket.sealed.cipher)) other) hk ∙ ap after hp
 
 -- ---- the signatures are right
 
@@ -102,24 +107,28 @@ all_right t holder granting h =
 
 right_back : (dir : DirectoryValue) (at : ℕ) (realm : RealmRec) (o : Opened) (bytes : List ℕ) → slice_get dir.realms at ≡ Some realm → pac_of o.part ≡ Some bytes → are_right realm o bytes ≡ true
     → are_signatures_right dir at o ≡ true
+unfolding are_signatures_right
 right_back dir at realm o bytes found has right =
-    ap (is_some_and (λ (r : RealmRec). is_some_and (are_right r o) (pac_of o.part))) found
-    ∙ ap (is_some_and (are_right realm o)) has
+    ap (holds_of (λ (r : RealmRec). holds_of (are_right r o) (pac_of o.part))) found
+    ∙ ap (holds_of (are_right realm o)) has
     ∙ right
 
 -- ---- what is shown
 
-presented_back : (dir : DirectoryValue) (at : ℕ) (role : Role) (o : Opened) (certified : Certified) → are_signatures_right dir at o ≡ true → record_of o.holder o.part ≡ Some certified
-    → presented dir at role o ≡ Ok certified
-presented_back dir at role o certified right told =
-    let after : Option Certified → Result Certified Rule = or_fault (pac_rule role) in
-    ap (λ (test : Bool). after (cond test (record_of o.holder o.part) None)) right ∙ ap after told
+certified_back : (dir : DirectoryValue) (at : ℕ) (o : Opened) (read : ReadRecord) → are_signatures_right dir at o ≡ true → record_of o.holder o.part ≡ Some read → certified dir at o ≡ Some (certified_of read)
+certified_back dir at o read right told =
+    certified_is dir at o
+    ∙ ap (λ (test : Bool). let found : Option Certified = cond test (option_map certified_of (record_of o.holder o.part)) None in found) right
+    ∙ ap (option_map certified_of) told
 
-shown_back : (dir : DirectoryValue) (at : ℕ) (role : Role) (ticket : Ticket) (held : Holding) (o : Opened) (certified : Certified) → holding dir at role ticket ≡ Some held → opened_by role ticket held ≡ Ok o
-    → presented dir at role o ≡ Ok certified → shown dir at role ticket ≡ Ok certified
-shown_back dir at role ticket held o certified found opens told =
-    let next : Result Opened Rule → Result Certified Rule = λ r. r >>= presented dir at role in
-    ap (λ (h : Option Holding). next (or_fault (name_rule role) h >>= opened_by role ticket)) found ∙ ap next opens ∙ told
+shown_back : (dir : DirectoryValue) (at : ℕ) (role : Role) (ticket : Ticket) (held : Holding) (o : Opened) (c : Certified) → holding dir at role ticket ≡ Some held → opened_by ticket held ≡ Ok o
+    → certified dir at o ≡ Some c → shown dir at role ticket ≡ Ok (shown_of o c)
+shown_back dir at role ticket held o c found opens told =
+    let next : Opened → Result Shown Rule = λ opened. presented dir at role opened >>= λ certified. Ok (shown_of opened certified) in
+    let last : Result Certified Rule → Result Shown Rule = λ r. r >>= λ certified. Ok (shown_of o certified) in
+    shown_is dir at role ticket
+    ∙ ap (λ (r : Result Opened Rule). r >>= next) (unsealed_is dir at role ticket ∙ ap (λ (h : Option Holding). or_fault (name_rule role) h >>= λ own. ruled role (opened_by ticket own)) found ∙ ap (ruled role) opens)
+    ∙ ap last (presented_is dir at role o ∙ ap (or_fault (pac_rule role)) told)
 
 pub tickets_are_shown : TicketsAreShown
 tickets_are_shown dir at realm role t sname issuer holder granting conf sound hk hc at_realm found same =
@@ -130,8 +139,11 @@ tickets_are_shown dir at realm role t sname issuer holder granting conf sound hk
     let o : Opened = opened_of held p in
     let few : length (enc_ticket_part.spelling p) < 2 ^ 32 = omega (arith, part_short t holder granting sound) in
     let back : part_in holder ticket.sealed.cipher ≡ Some p = part_back holder conf p hk hc (part_writable t holder granting sound) (part_written t holder granting sound) few in
-    let opens : opened_by role ticket held ≡ Ok o = opened_back role ticket held p (is_its_key holder (version_of t.holder) ticket.sealed.cipher) back in
+    let opens : opened_by ticket held ≡ Ok o = opened_back ticket held p (is_its_key holder (version_of t.holder) ticket.sealed.cipher) back in
     let right : are_right realm o bytes ≡ true = right_by realm t.holder holder granting (enc_ticket_part.spelling (without_pac p)) bytes same (all_right t holder granting sound) (server_verified t holder granting sound) in
-    let told : presented dir at role o ≡ Ok (record { rec = t; agrees = true }) =
-    presented_back dir at role o (record { rec = t; agrees = true }) (right_back dir at realm o bytes at_realm (pac_in_part t holder granting sound) right) (record_back t holder granting sound) in
+    let told : certified dir at o ≡ Some (record { rec = t; agrees = true }) =
+    certified_back dir at o (record { rec = t; agrees = true }) (right_back dir at realm o bytes at_realm (pac_in_part t holder granting sound) right) (record_back t t.holder holder granting sound) in
     shown_back dir at role ticket held o (record { rec = t; agrees = true }) found opens told
+
+pub shown_is_told : ShownIsTold
+shown_is_told dir at role ticket s h = (shown_shows dir at role ticket s h).told

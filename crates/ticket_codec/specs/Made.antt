@@ -9,9 +9,9 @@ use Rattle.krb_tickets.specs.declared.ticket.Ticket.{Ticket}
 use Rattle.krb_tickets.specs.EncTicketPart.{enc_ticket_part}
 use Rattle.krb_tickets.specs.Transited.{is_realm}
 use Rattle.ticket_laws.specs.Writable.{are_parts}
-use Rattle.ticket_records.specs.declared.holder.Holder.{Holder}
-use Rattle.ticket_records.specs.declared.ticket_rec.TicketRec.{TicketRec}
-use Rattle.ticket_records.specs.Parties.{version_of}
+use Rattle.kdc_records.specs.declared.holder.Holder.{Holder}
+use Rattle.kdc_records.specs.declared.ticket_rec.TicketRec.{TicketRec}
+use Rattle.kdc_records.specs.Parties.{version_of}
 use Rattle.ticket_parts.specs.Parts.{part}
 
 -- a name that can be written in a ticket of the issuing realm, which stands in the ticket once (RFC 4120 5.2.2)

@@ -1,21 +1,22 @@
--- Whose key opens a ticket that is shown, by the role that it is shown in (RFC 4120 3.3.2, MS-SFU 3.2.5.2).
-use Rattle.std.specs.Prelude.{ℕ, ◌==◌, ◌&&◌, not, Bool, false, List, [], ◌∷◌, codes, Option, None, Some, find, option_map, slice_get, if◌then◌else◌}
+-- Whose key opens a ticket that is shown, by the role that it is shown in (RFC 4120, section 3.3.2; MS-SFU, section 3.2.5.2).
+use Rattle.std.specs.Prelude.{ℕ, ◌==◌, ◌&&◌, not, Bool, false, List, [], ◌∷◌, codes, Option, None, Some, slice_get, if◌then◌else◌}
 use lib.Pointwise.{pointwise}
 use Rattle.kdc_prelude.specs.Steps.{◌>>=◌}
 use Rattle.kdc_prelude.specs.Texts.{same_text}
 use Rattle.krb_names.specs.declared.principal.Principal.{Principal}
 use Rattle.krb_tickets.specs.declared.ticket.Ticket.{Ticket}
-use Rattle.dir_core.specs.declared.rule.Rule.{Rule}
-use Rattle.dir_core.specs.declared.rule.Rule.TheVariants.{G2, G3, G4, G12, P2, P3, P4, P5}
-use Rattle.dir_core.specs.Lookups.{account_at, realm_named}
-use Rattle.dir_records.specs.declared.records.Account.{Account as AccountRec}
+use Rattle.kdc_records.specs.declared.decision.Aim.{Aim}
+use Rattle.kdc_records.specs.declared.decision.Aim.TheVariants.{Krbtgt, Hop, Account}
+use Rattle.kdc_records.specs.declared.rule.Rule.{Rule}
+use Rattle.kdc_records.specs.declared.rule.Rule.TheVariants.{G2, G3, G4, G12, P2, P3, P4, P5}
+use Rattle.dir_core.specs.Lookups.{realm_named}
 use Rattle.dir_records.specs.declared.records.RealmRec.{RealmRec}
 use Rattle.dir_records.specs.DirectoryValue.{DirectoryValue}
 use Rattle.route_rules.specs.Aims.{resolve_account}
-use Rattle.ticket_records.specs.declared.holder.Holder.TheVariants.{Krbtgt, Trust, Account}
 use Rattle.ticket_codec.specs.declared.holding.Holding.{Holding}
 use Rattle.ticket_codec.specs.declared.role.Role.{Role}
 use Rattle.ticket_codec.specs.declared.role.Role.TheVariants.{Header, Evidence, CrossEvidence}
+use Rattle.ticket_codec.specs.Holdings.{aim_holding, trust_in}
 
 -- ---- the rules of a role
 
@@ -49,36 +50,19 @@ pac_rule CrossEvidence = P5
 abbrev pub is_krbtgt_of : List ℕ → Principal → Bool
 is_krbtgt_of realm name = pointwise same_text name.parts (codes "krbtgt" ∷ realm ∷ [])
 
--- the realm's ticket-granting service
-abbrev pub krbtgt_holding : RealmRec → Holding
-krbtgt_holding realm = record { holder = Krbtgt realm.name realm.krbtgt.version; key = realm.krbtgt }
-
--- the realm's trust in a partner, by the first one of its list
-abbrev pub trust_holding : List ℕ → RealmRec → Option Holding
-trust_holding partner realm =
-    find (λ trust. same_text trust.partner partner) realm.trusts >>= λ trust.
-    Some (record { holder = Trust realm.name partner trust.key.version; key = trust.key })
-
-abbrev pub account_holding : RealmRec → AccountRec → Holding
-account_holding realm account = record { holder = Account realm.name account.number account.key.version; key = account.key }
-
--- the realm of this name
-abbrev pub realm_of : DirectoryValue → List ℕ → Option RealmRec
-realm_of dir name = realm_named dir name >>= slice_get dir.realms
-
--- a cross-realm ticket-granting ticket into a realm: another realm has issued it, for its trust in this one
-abbrev pub cross_holding : DirectoryValue → RealmRec → Ticket → Option Holding
-cross_holding dir realm ticket =
+-- a cross-realm ticket-granting ticket into a realm: another realm has sealed it, for its trust in this one
+abbrev pub cross_place : DirectoryValue → RealmRec → Ticket → Option (ℕ × Aim)
+cross_place dir realm ticket =
     if is_krbtgt_of realm.name ticket.sname && not (same_text ticket.realm realm.name)
-    then realm_of dir ticket.realm >>= trust_holding realm.name
+    then (realm_named dir ticket.realm >>= λ issuer. trust_in dir issuer realm.name >>= λ hop. Some (issuer, Hop hop))
     else None
 
 -- a header is a ticket-granting ticket of the realm, local or cross-realm
-abbrev pub header_holding : DirectoryValue → RealmRec → Ticket → Option Holding
-header_holding dir realm ticket =
+abbrev pub header_place : DirectoryValue → ℕ → RealmRec → Ticket → Option (ℕ × Aim)
+header_place dir at realm ticket =
     if is_krbtgt_of realm.name ticket.sname && same_text ticket.realm realm.name
-    then Some (krbtgt_holding realm)
-    else cross_holding dir realm ticket
+    then Some (at, Krbtgt)
+    else cross_place dir realm ticket
 
 -- it is this account, of the realm at this index
 abbrev pub is_place : ℕ → ℕ → Option (ℕ × ℕ) → Bool
@@ -86,17 +70,21 @@ is_place realm account None = false
 is_place realm account (Some place) = place.0 == realm && place.1 == account
 
 -- the evidence of an account of the realm: a ticket of this realm for that account
-abbrev pub evidence_holding : DirectoryValue → ℕ → RealmRec → ℕ → Ticket → Option Holding
-evidence_holding dir at realm account ticket =
+abbrev pub evidence_place : DirectoryValue → ℕ → RealmRec → ℕ → Ticket → Option (ℕ × Aim)
+evidence_place dir at realm account ticket =
     if same_text ticket.realm realm.name && is_place at account (resolve_account dir at ticket.sname)
-    then option_map (account_holding realm) (account_at dir at account)
+    then Some (at, Account account)
     else None
 
-abbrev pub holding_in : DirectoryValue → ℕ → RealmRec → Role → Ticket → Option Holding
-holding_in dir at realm Header ticket = header_holding dir realm ticket
-holding_in dir at realm (Evidence account) ticket = evidence_holding dir at realm account ticket
-holding_in dir at realm CrossEvidence ticket = cross_holding dir realm ticket
+abbrev pub place_in_role : DirectoryValue → ℕ → RealmRec → Role → Ticket → Option (ℕ × Aim)
+place_in_role dir at realm Header ticket = header_place dir at realm ticket
+place_in_role dir at realm (Evidence account) ticket = evidence_place dir at realm account ticket
+place_in_role dir at realm CrossEvidence ticket = cross_place dir realm ticket
+
+-- for whom a ticket is sealed that is shown at the realm at an index: the index of the realm that sealed it, and its aim there
+unfoldable pub holder_place : DirectoryValue → ℕ → Role → Ticket → Option (ℕ × Aim)
+holder_place dir at role ticket = slice_get dir.realms at >>= λ realm. place_in_role dir at realm role ticket
 
 -- whose key opens a ticket that is shown at the realm at an index
-abbrev pub holding : DirectoryValue → ℕ → Role → Ticket → Option Holding
-holding dir at role ticket = slice_get dir.realms at >>= λ realm. holding_in dir at realm role ticket
+unfoldable pub holding : DirectoryValue → ℕ → Role → Ticket → Option Holding
+holding dir at role ticket = holder_place dir at role ticket >>= λ place. aim_holding dir place.0 place.1

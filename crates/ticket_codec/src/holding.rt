@@ -1,18 +1,13 @@
-//! Whose key opens a ticket that is shown.
+//! For whom a realm seals tickets, and with which key.
 
-ghost use Rattle.std.specs.Prelude.{◌≡◌, ◌<◌, IfOk, Some, find, length, slice_get};
-ghost use Rattle.std.specs.Option.{option_copied};
+ghost use Rattle.std.specs.Prelude.{◌≡◌, ◌<◌, IfOk, IfSome, length, position};
 ghost use Rattle.kdc_prelude.specs.Texts.{same_text};
-ghost use Rattle.dir_records.specs.declared.records.RealmRec.{RealmRec};
-ghost use Rattle.ticket_codec.specs.Roles.{account_holding, cross_holding, evidence_holding, header_holding, holding, is_krbtgt_of, krbtgt_holding, trust_holding};
+ghost use Rattle.ticket_codec.specs.Holdings.{account_holding, aim_holding, hop_holding, krbtgt_holding, trust_in};
 
-use crate::role::Role;
-use dir_core::{Account, Directory, KeyRec, RealmRec, Trust};
-use krb_names::{Principal, Text};
-use krb_tickets::Ticket;
-use route_rules::resolve_account;
+use dir_core::{Account, Aim, Directory, KeyRec, RealmRec, Trust};
+use kdc_records::Holder;
+use krb_names::Text;
 use std::alloc::{AllocError, Global};
-use ticket_records::Holder;
 
 /// For whom a ticket is sealed, and the key.
 #[derive(Debug, Drop)]
@@ -21,18 +16,8 @@ pub struct Holding {
     pub key: KeyRec,
 }
 
-/// Whether a name is that of the ticket-granting service of the realm of this name.
-fn is_krbtgt_of(realm: &str, name: &Principal) -> bool
-    ensures { result ≡ is_krbtgt_of realm.now name.now }
-{
-    match name.parts.as_slice() {
-        [service, of] => service.as_str() == "krbtgt" && of.as_str() == realm,
-        _ => false,
-    }
-}
-
-/// A realm's ticket-granting service: what a local ticket-granting ticket is sealed for.
-pub fn krbtgt_holding(alloc: Global, realm: &RealmRec) -> Result<Holding, AllocError>
+/// A realm's ticket-granting service.
+fn krbtgt_holding(alloc: Global, realm: &RealmRec) -> Result<Holding, AllocError>
     ensures { IfOk result (λ held. held ≡ krbtgt_holding realm.now) }
 {
     Ok(Holding {
@@ -44,40 +29,22 @@ pub fn krbtgt_holding(alloc: Global, realm: &RealmRec) -> Result<Holding, AllocE
     })
 }
 
-/// The trust of a realm in a partner.
-fn find_trust<'a>(partner: &str, realm: &'a RealmRec) -> Option<&'a Trust>
-    ensures { option_copied result ≡ find (λ trust. same_text trust.partner partner.now) realm.now.trusts }
+/// A trust of a realm.
+fn hop_holding(alloc: Global, realm: &RealmRec, trust: &Trust) -> Result<Holding, AllocError>
+    ensures { IfOk result (λ held. held ≡ hop_holding realm.now trust.now) }
 {
-    realm
-        .trusts
-        .as_slice()
-        .iter()
-        .find(|trust| trust.partner.as_str() == partner)
-}
-
-/// A realm's trust in a partner, the first of its list: what a cross-realm ticket-granting ticket is sealed for.
-pub fn trust_holding(
-    alloc: Global,
-    partner: &str,
-    realm: &RealmRec,
-) -> Result<Option<Holding>, AllocError>
-    ensures { IfOk result (λ held. held ≡ trust_holding partner.now realm.now) }
-{
-    let Some(trust) = find_trust(partner, realm) else {
-        return Ok(None);
-    };
-    Ok(Some(Holding {
+    Ok(Holding {
         holder: Holder::Trust {
             realm: Text::copy(alloc, realm.name.as_str())?,
-            partner: Text::copy(alloc, partner)?,
+            partner: Text::copy(alloc, trust.partner.as_str())?,
             version: trust.key.version,
         },
         key: trust.key,
-    }))
+    })
 }
 
-/// An account of a realm: what a service ticket is sealed for.
-pub fn account_holding(
+/// An account of a realm.
+fn account_holding(
     alloc: Global,
     realm: &RealmRec,
     account: &Account,
@@ -94,78 +61,49 @@ pub fn account_holding(
     })
 }
 
-/// A cross-realm ticket-granting ticket into a realm.
-fn cross_holding(
+/// For whom a ticket is sealed that the realm at an index gives for this aim, and the key: the realm's ticket-granting
+/// service, or the trust or account at an index of its lists. None where there is no such trust or account.
+#[tactic(auto, unfolding(crate::specs::Holdings::aim_holding))]
+pub fn aim_holding(
     alloc: Global,
     dir: &Directory,
-    realm: &RealmRec,
-    ticket: &Ticket,
+    realm: u32,
+    aim: Aim,
 ) -> Result<Option<Holding>, AllocError>
-    ensures { IfOk result (λ held. held ≡ cross_holding dir.now realm.now ticket.now) }
+    requires { realm < length dir.now.realms }
+    ensures exact { IfOk result (λ held. held ≡ aim_holding dir.now realm aim) }
 {
-    let name = realm.name.as_str();
-    if !is_krbtgt_of(name, &ticket.sname) || ticket.realm == realm.name {
-        return Ok(None);
-    }
-    match dir.realm_by_name(ticket.realm.as_str()) {
-        None => Ok(None),
-        Some(issuer) => trust_holding(alloc, name, dir.realm(issuer)),
+    let realm = dir.realm(realm);
+    match aim {
+        Aim::Krbtgt => Ok(Some(krbtgt_holding(alloc, realm)?)),
+        Aim::Hop(at) => match realm.trusts.get(at as usize) {
+            Some(trust) => Ok(Some(hop_holding(alloc, realm, trust)?)),
+            None => Ok(None),
+        },
+        Aim::Account(at) => match realm.accounts.get(at as usize) {
+            Some(account) => Ok(Some(account_holding(alloc, realm, account)?)),
+            None => Ok(None),
+        },
     }
 }
 
-/// A ticket-granting ticket of the realm, local or cross-realm.
-fn header_holding(
-    alloc: Global,
-    dir: &Directory,
-    realm: &RealmRec,
-    ticket: &Ticket,
-) -> Result<Option<Holding>, AllocError>
-    ensures { IfOk result (λ held. held ≡ header_holding dir.now realm.now ticket.now) }
+/// The index of the trust in a partner, the first of the list of the realm at an index.
+#[tactic(auto, unfolding(crate::specs::Holdings::trust_in))]
+pub fn find_trust(dir: &Directory, realm: u32, partner: &str) -> Option<u32>
+    requires { realm < length dir.now.realms }
+    ensures exact { result ≡ trust_in dir.now realm partner.now }
 {
-    if is_krbtgt_of(realm.name.as_str(), &ticket.sname) && ticket.realm == realm.name {
-        Ok(Some(krbtgt_holding(alloc, realm)?))
-    } else {
-        cross_holding(alloc, dir, realm, ticket)
+    match place_of_partner(dir.realm(realm).trusts.as_slice(), partner) {
+        Some(place) => Some(place as u32),
+        None => None,
     }
 }
 
-/// A ticket of the realm at an index for the account at an index.
-fn evidence_holding(
-    alloc: Global,
-    dir: &Directory,
-    at: u32,
-    account: u32,
-    ticket: &Ticket,
-) -> Result<Option<Holding>, AllocError>
-    requires { at < length dir.now.realms }
-    ensures { IfOk result (λ held. (realm : RealmRec) → slice_get dir.now.realms at ≡ Some realm → held ≡ evidence_holding dir.now at realm account ticket.now) }
+fn place_of_partner(trusts: &[Trust], partner: &str) -> Option<usize>
+    ensures place { result ≡ position (λ trust. same_text trust.partner partner.now) trusts.now }
+    ensures within { IfSome result (λ place. place < length trusts.now) }
 {
-    let realm = dir.realm(at);
-    if ticket.realm != realm.name
-        || resolve_account(dir, at, &ticket.sname) != Some((at, account))
-    {
-        return Ok(None);
-    }
-    match dir.account_at(at, account) {
-        None => Ok(None),
-        Some(account) => Ok(Some(account_holding(alloc, realm, account)?)),
-    }
-}
-
-/// Whose key opens a ticket that is shown at the realm at an index.
-pub fn find_holding(
-    alloc: Global,
-    dir: &Directory,
-    at: u32,
-    role: Role,
-    ticket: &Ticket,
-) -> Result<Option<Holding>, AllocError>
-    requires { at < length dir.now.realms }
-    ensures { IfOk result (λ held. held ≡ holding dir.now at role ticket.now) }
-{
-    match role {
-        Role::Header => header_holding(alloc, dir, dir.realm(at), ticket),
-        Role::Evidence(account) => evidence_holding(alloc, dir, at, account, ticket),
-        Role::CrossEvidence => cross_holding(alloc, dir, dir.realm(at), ticket),
-    }
+    trusts
+        .iter()
+        .position(|trust| trust.partner.as_str() == partner)
 }

@@ -2,7 +2,9 @@
 //! section 5.3; MS-PAC; MS-SFU, section 3.2.5).
 #![tactic(auto)]
 
+mod bytes;
 mod fault;
+mod holder;
 mod holding;
 mod laws;
 mod making;
@@ -10,14 +12,14 @@ mod opening;
 mod presenting;
 mod role;
 
-pub use fault::ShowFault;
-pub use holding::{Holding, account_holding, krbtgt_holding, trust_holding};
+pub use fault::{OpenFault, ShowFault, Unopened};
+pub use holding::{Holding, aim_holding, find_trust};
 pub use laws::tickets_keep_laws;
 pub use making::make_ticket;
 pub use opening::{Opened, open_held, unseal};
-pub use presenting::present;
+pub use presenting::{Certified, certify, present};
 pub use role::Role;
-pub use ticket_parts::{Certified, record_law};
+pub use ticket_parts::record_law;
 
 #[cfg(test)]
 mod tests;

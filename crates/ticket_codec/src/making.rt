@@ -5,22 +5,18 @@ ghost use Rattle.aes_core.specs.Inverses.{AreBytes};
 ghost use Rattle.der_core.specs.Laws.{IsBytes};
 ghost use Rattle.krb_crypto.specs.Encryption.{seal};
 ghost use Rattle.krb_tickets.specs.Ticket.{ticket};
-ghost use Rattle.ticket_records.specs.Parties.{version_of};
+ghost use Rattle.kdc_records.specs.Parties.{version_of};
 ghost use Rattle.ticket_parts.specs.Sound.{IsSound};
 ghost use Rattle.ticket_codec.specs.Made.{IsTicketName, ticket_of, ticket_with};
 
+use crate::bytes::bytes_fit;
 use crate::opening::TICKET_USAGE;
+use kdc_records::{Holder, TicketRec};
 use krb_crypto::seal;
 use krb_names::{Bytes, Key, Principal, Realm, TryClone};
 use krb_tickets::{EncryptedData, Ticket, write_part};
 use std::alloc::{AllocError, Global};
 use ticket_parts::make_part;
-use ticket_records::{Holder, TicketRec};
-
-/// The bounds of the type of bytes.
-fn bytes_fit(bytes: &[u8])
-    ensures { IsBytes bytes.now }
-{}
 
 /// The bounds of a key's type.
 fn key_fits(raw: &[u8; 32])

@@ -1,23 +1,26 @@
 //! Opening a ticket that is shown.
 
-ghost use Rattle.std.specs.Prelude.{◌≡◌, ◌<◌, ◌≤◌, ◌*◌, ◌^◌, IfOk, IfSome, length, option_map, slice_range};
+ghost use Rattle.std.specs.Prelude.{◌≡◌, ◌<◌, ◌≤◌, ◌+◌, ◌^◌, IfOk, IfSome, length, option_map, slice_range};
 ghost use Rattle.kdc_prelude.specs.Answers.{Answers};
 ghost use Rattle.der_core.specs.Codec.{whole};
 ghost use Rattle.krb_crypto.specs.Encryption.{opened};
 ghost use Rattle.krb_tickets.specs.EncTicketPart.{enc_ticket_part};
-ghost use Rattle.ticket_codec.specs.Denied.{denied};
+ghost use Rattle.ticket_laws.specs.Writable.{IsWritablePart};
+ghost use Rattle.ticket_codec.specs.Denied.{denied, unless_unopened};
 ghost use Rattle.ticket_codec.specs.Opening.{is_for_key, opened_by, part_in, part_read, unsealed};
 
-use crate::fault::ShowFault;
-use crate::holding::{Holding, find_holding};
+use crate::bytes::bytes_fit;
+use crate::fault::{OpenFault, ShowFault, Unopened};
+use crate::holder::find_holding;
+use crate::holding::Holding;
 use crate::role::Role;
 use dir_core::{Directory, KeyRec};
+use kdc_records::Holder;
 use krb_crypto::open_in_place;
 use krb_names::Key;
 use krb_tickets::{EncTicketPart, EncryptedData, Ticket, TicketFault, read_part};
 use std::alloc::{AllocError, Global};
 use std::ops::Range;
-use ticket_records::Holder;
 
 /// The key usage of a ticket (RFC 4120, section 7.5.1).
 pub(crate) const TICKET_USAGE: u32 = 2;
@@ -44,9 +47,10 @@ fn is_for_key(key: &KeyRec, sealed: &EncryptedData) -> bool
 fn read_text(alloc: Global, text: &[u8]) -> Result<Option<EncTicketPart>, AllocError>
     requires { length text.now < 2 ^ 32 }
     ensures value { IfOk result (λ found. found ≡ part_read (whole enc_ticket_part text.now)) }
-    ensures fits { IfOk result (λ found. IfSome found (λ part. enc_ticket_part.Fits part)) }
-    ensures short { IfOk result (λ found. IfSome found (λ part. length (enc_ticket_part.spelling part) ≤ 3 * length text.now)) }
+    ensures writable { IfOk result (λ found. IfSome found (λ part. IsWritablePart part)) }
+    ensures short { IfOk result (λ found. IfSome found (λ part. length (enc_ticket_part.spelling part) ≤ length text.now + 8)) }
 {
+    bytes_fit(text);
     match read_part(alloc, text) {
         Ok(part) => Ok(Some(part)),
         Err(TicketFault::Malformed(_)) => Ok(None),
@@ -58,6 +62,8 @@ fn read_text(alloc: Global, text: &[u8]) -> Result<Option<EncTicketPart>, AllocE
 fn open_ticket(key: &Key, bytes: &mut [u8]) -> Option<Range<usize>>
     ensures value { option_map (λ range. slice_range bytes.new range.start range.end) result ≡ opened key.now 2 bytes.old }
     ensures within { IfSome result (λ range. (range.start ≤ range.end) × (range.end ≤ length bytes.new)) }
+    // A confounder stands before it, and a checksum behind.
+    ensures size { IfSome result (λ range. range.end + 28 ≡ range.start + length bytes.new) }
 {
     open_in_place(key, TICKET_USAGE, bytes)
 }
@@ -66,8 +72,8 @@ fn open_ticket(key: &Key, bytes: &mut [u8]) -> Option<Range<usize>>
 fn part_in(alloc: Global, key: &Key, cipher: &[u8]) -> Result<Option<EncTicketPart>, AllocError>
     requires { length cipher.now < 2 ^ 32 }
     ensures value { IfOk result (λ found. found ≡ part_in key.now cipher.now) }
-    ensures fits { IfOk result (λ found. IfSome found (λ part. enc_ticket_part.Fits part)) }
-    ensures short { IfOk result (λ found. IfSome found (λ part. length (enc_ticket_part.spelling part) ≤ 3 * length cipher.now)) }
+    ensures writable { IfOk result (λ found. IfSome found (λ part. IsWritablePart part)) }
+    ensures short { IfOk result (λ found. IfSome found (λ part. length (enc_ticket_part.spelling part) + 20 ≤ length cipher.now)) }
 {
     let mut bytes = Vec::from_slice(alloc, cipher)?;
     let Some(range) = open_ticket(key, bytes.as_mut_slice()) else {
@@ -79,25 +85,20 @@ fn part_in(alloc: Global, key: &Key, cipher: &[u8]) -> Result<Option<EncTicketPa
 /// Opens a ticket with the key of the one for whom it is sealed.
 ///
 /// # Errors
-/// `Deny` with the first rule of the role that fails: the key's version or type is not the ticket's (`G3`, of evidence `P3`),
-/// or the ticket does not open or what was sealed does not read (`G4`, `P4`); `NoMemory`.
-pub fn open_held(
-    alloc: Global,
-    role: Role,
-    ticket: &Ticket,
-    held: Holding,
-) -> Result<Opened, ShowFault>
+/// `Unopened` with what fails first: the key's version or type is not the ticket's, or the ticket does not open or what
+/// was sealed does not read; `NoMemory`.
+pub fn open_held(alloc: Global, ticket: &Ticket, held: Holding) -> Result<Opened, OpenFault>
     requires { length ticket.now.sealed.cipher < 2 ^ 32 }
-    ensures exact { Answers ShowFault.NoMemory result (denied (opened_by role ticket.now held)) }
-    ensures fits { IfOk result (λ shown. enc_ticket_part.Fits shown.part) }
-    ensures short { IfOk result (λ shown. length (enc_ticket_part.spelling shown.part) ≤ 3 * length ticket.now.sealed.cipher) }
+    ensures exact { Answers OpenFault.NoMemory result (unless_unopened (opened_by ticket.now held)) }
+    ensures writable { IfOk result (λ opened. IsWritablePart opened.part) }
+    ensures short { IfOk result (λ opened. length (enc_ticket_part.spelling opened.part) + 20 ≤ length ticket.now.sealed.cipher) }
 {
     if !is_for_key(&held.key, &ticket.sealed) {
-        return Err(ShowFault::Deny(role.key_rule()));
+        return Err(OpenFault::Unopened(Unopened::WrongKey));
     }
     let key = held.key.key;
     match part_in(alloc, &key, ticket.sealed.cipher.as_slice())? {
-        None => Err(ShowFault::Deny(role.opening_rule())),
+        None => Err(OpenFault::Unopened(Unopened::Unreadable)),
         Some(part) => Ok(Opened {
             part,
             holder: held.holder,
@@ -113,6 +114,7 @@ pub fn open_held(
 /// `Deny` with the first rule that fails: the ticket is not for that realm or account (`G2`, of evidence `P2`), its key
 /// version or type is not that key's (`G3`, `P3`), it does not open or what was sealed does not read (`G4`, `P4`);
 /// `NoMemory`.
+#[tactic(auto, unfolding(crate::specs::Opening::unsealed))]
 pub fn unseal(
     alloc: Global,
     dir: &Directory,
@@ -121,14 +123,18 @@ pub fn unseal(
     ticket: &Ticket,
 ) -> Result<Opened, ShowFault>
     requires realm { realm < length dir.now.realms }
-    requires short { length ticket.now.sealed.cipher < 2 ^ 32 }
+    requires few { length ticket.now.sealed.cipher < 2 ^ 32 }
     ensures exact { Answers ShowFault.NoMemory result (denied (unsealed dir.now realm role ticket.now)) }
-    // What was sealed can be written, in at most three times as many bytes.
-    ensures fits { IfOk result (λ shown. enc_ticket_part.Fits shown.part) }
-    ensures short { IfOk result (λ shown. length (enc_ticket_part.spelling shown.part) ≤ 3 * length ticket.now.sealed.cipher) }
+    // What was sealed can be written, in fewer bytes than the cipher has.
+    ensures writable { IfOk result (λ opened. IsWritablePart opened.part) }
+    ensures short { IfOk result (λ opened. length (enc_ticket_part.spelling opened.part) + 20 ≤ length ticket.now.sealed.cipher) }
 {
-    match find_holding(alloc, dir, realm, role, ticket)? {
-        None => Err(ShowFault::Deny(role.name_rule())),
-        Some(held) => open_held(alloc, role, ticket, held),
+    let Some(held) = find_holding(alloc, dir, realm, role, ticket)? else {
+        return Err(ShowFault::Deny(role.name_rule()));
+    };
+    match open_held(alloc, ticket, held) {
+        Ok(opened) => Ok(opened),
+        Err(OpenFault::Unopened(unopened)) => Err(ShowFault::Deny(role.unopened_rule(unopened))),
+        Err(OpenFault::NoMemory) => Err(ShowFault::NoMemory),
     }
 }

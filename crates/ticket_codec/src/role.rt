@@ -1,7 +1,9 @@
 //! What a ticket is shown as.
 ghost use Rattle.std.specs.Prelude.{◌≡◌};
+ghost use Rattle.ticket_codec.specs.Opening.{unopened_rule};
 ghost use Rattle.ticket_codec.specs.Roles.{key_rule, name_rule, opening_rule, pac_rule};
 
+use crate::fault::Unopened;
 use dir_core::Rule;
 
 /// What a ticket is shown as, at a realm.
@@ -16,7 +18,7 @@ pub enum Role {
 }
 
 impl Role {
-    /// The rule that the ticket is for the realm or the account.
+    /// The rule that the ticket is for the realm or the account: `header_is_for_this_realm`, `evidence_is_for_requestor`.
     pub fn name_rule(self) -> Rule
         ensures { result ≡ name_rule self }
     {
@@ -26,7 +28,7 @@ impl Role {
         }
     }
 
-    /// The rule that its key version and type are the key's.
+    /// The rule that its key version and type are the key's: `header_key_fits`, `evidence_key_fits`.
     pub fn key_rule(self) -> Rule
         ensures { result ≡ key_rule self }
     {
@@ -36,7 +38,7 @@ impl Role {
         }
     }
 
-    /// The rule that it opens and reads.
+    /// The rule that it opens and reads: `header_opens`, `evidence_opens`.
     pub fn opening_rule(self) -> Rule
         ensures { result ≡ opening_rule self }
     {
@@ -46,7 +48,17 @@ impl Role {
         }
     }
 
-    /// The rule that its PAC reads and the signatures are right.
+    /// The rule that fails where a ticket does not open.
+    pub fn unopened_rule(self, unopened: Unopened) -> Rule
+        ensures { result ≡ unopened_rule self unopened }
+    {
+        match unopened {
+            Unopened::WrongKey => self.key_rule(),
+            Unopened::Unreadable => self.opening_rule(),
+        }
+    }
+
+    /// The rule that its PAC reads and the signatures are right: `header_pac_is_right`, `evidence_pac_is_right`.
     pub fn pac_rule(self) -> Rule
         ensures { result ≡ pac_rule self }
     {

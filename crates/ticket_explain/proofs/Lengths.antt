@@ -23,14 +23,14 @@ no_longer text = by_test (eqb (slice_index text (length text - 1)) 10)
     by_test true = omega (arith, length-take (length text - 1) text)
     by_test false = omega arith
 
-pub few_bytes : (text line bytes : List ℕ) → length text ≤ 1048576 → line ≡ without_last_newline text → decode_of line ≡ Ok bytes → length bytes < 2 ^ 20
+pub few_bytes : (text line bytes : List ℕ) → length text < 2 ^ 32 → line ≡ without_last_newline text → decode_of line ≡ Ok bytes → length bytes < 2 ^ 31
 few_bytes text line bytes short is decoded =
     let pairs = (decode_of-ok line bytes decoded).2 in
     let le = no_longer text in
     let same = is in
     by_lengths (length text) (length line) (length bytes) short (rw same le) pairs
   where
-    by_lengths : (n m k : ℕ) → n ≤ 1048576 → m ≤ n → m ≡ 2 * k → k < 2 ^ 20
+    by_lengths : (n m k : ℕ) → n < 2 ^ 32 → m ≤ n → m ≡ 2 * k → k < 2 ^ 31
     by_lengths n m k short le e = omega arith
 
 through : {a b c : ℕ} → a ≤ b → b ≤ c → a ≤ c
@@ -76,9 +76,9 @@ cipher_within t =
     through (content_within 0x30 first) (
     content_within 0x61 (element 0x30 first)))))))
 
--- what can be opened of a short line of hex
-pub few_sealed : (t : Ticket) (bytes : List ℕ) → length bytes < 2 ^ 20 → length (ticket.spelling t) ≤ 3 * length bytes → length t.sealed.cipher < 2 ^ 22
-few_sealed t bytes few le = by_lengths (length bytes) (length (ticket.spelling t)) (length t.sealed.cipher) few le (cipher_within t)
+-- what can be opened of a line of hex
+pub few_sealed : (t : Ticket) (bytes : List ℕ) → length bytes < 2 ^ 31 → length (ticket.spelling t) ≤ length bytes → length t.sealed.cipher < 2 ^ 31
+few_sealed t bytes few le = through_below (length t.sealed.cipher) (length (ticket.spelling t)) (length bytes) (cipher_within t) le few
   where
-    by_lengths : (n m k : ℕ) → n < 2 ^ 20 → m ≤ 3 * n → k ≤ m → k < 2 ^ 22
-    by_lengths n m k few le within = omega arith
+    through_below : (k m n : ℕ) → k ≤ m → m ≤ n → n < 2 ^ 31 → k < 2 ^ 31
+    through_below k m n within le few = omega arith

@@ -3,8 +3,7 @@ use Rattle.std.proofs.Common.{◌≡◌, List, ℕ, [], ◌∷◌, ◌++◌, ap,
 use Rattle.std.specs.Prelude.{codes, decimal}
 use Rattle.std.specs.List.{flat_map}
 use Rattle.std.proofs.lemmas.List.Concat.{flat_map-append}
-use Rattle.krb_names.specs.SidValue.{SidValue, followed_by}
-use Rattle.ticket_explain.specs.Words.{numbers_text, sid_text}
+use Rattle.krb_names.specs.SidValue.{SidValue, followed_by, numbers_text, sid_text}
 
 one_more : (numbers : List ℕ) (n : ℕ) → numbers_text (numbers ++ n ∷ []) ≡ numbers_text numbers ++ 45 ∷ decimal n
 one_more numbers n =

@@ -7,16 +7,17 @@ use Rattle.kdc_prelude.specs.Lines.{without_last_newline}
 use Rattle.kdc_prelude.specs.Results.{◌>>=◌}
 use Rattle.der_core.specs.Codec.{whole}
 use Rattle.der_core.specs.declared.refusal.DerRefusal.{DerRefusal}
-use Rattle.dir_core.specs.declared.rule.Rule.{Rule}
-use Rattle.dir_core.specs.declared.rule.Rule.TheVariants.{P2, U3}
+use Rattle.kdc_records.specs.declared.rule.Rule.{Rule}
+use Rattle.kdc_records.specs.declared.rule.Rule.TheVariants.{P2, P3, P4, P5, U3}
 use Rattle.dir_records.specs.DirectoryValue.{DirectoryValue}
 use Rattle.krb_tickets.specs.declared.ticket.Ticket.{Ticket}
 use Rattle.krb_tickets.specs.Ticket.{ticket}
-use Rattle.ticket_records.specs.declared.ticket_rec.TicketRec.{TicketRec}
+use Rattle.kdc_records.specs.declared.ticket_rec.TicketRec.{TicketRec}
 use Rattle.ticket_codec.specs.declared.opening.Opened.{Opened}
-use Rattle.ticket_codec.specs.declared.role.Role.TheVariants.{CrossEvidence}
+use Rattle.ticket_codec.specs.declared.fault.Unopened.{Unopened}
+use Rattle.ticket_codec.specs.declared.fault.Unopened.TheVariants.{WrongKey, Unreadable}
 use Rattle.ticket_codec.specs.Opening.{opened_by}
-use Rattle.ticket_codec.specs.Presented.{presented}
+use Rattle.ticket_codec.specs.Presented.{certified}
 use Rattle.ticket_explain.specs.declared.fault.ExplainFault.{ExplainFault}
 use Rattle.ticket_explain.specs.declared.fault.ExplainFault.TheVariants.{Deny}
 use Rattle.ticket_explain.specs.declared.holders.Held.{Held}
@@ -34,12 +35,21 @@ lines t holder rec = ticket_line t ++ holder_line holder ++ record_lines rec
 
 -- what is told of a ticket that was opened; P5 where its PAC does not read or a signature is wrong
 unfoldable pub told_opened : DirectoryValue → ℕ → Ticket → List ℕ → Opened → Result (List ℕ) Rule
-told_opened dir at t holder opened = presented dir at CrossEvidence opened >>= λ certified. Ok (lines t holder certified.rec)
+told_opened dir at t holder opened = or_fault P5 (certified dir at opened) >>= λ shown. Ok (lines t holder shown.rec)
 
--- what is told of a ticket whose holder is known; P3 where the key's version or type is not the ticket's, P4 where the ticket
+-- the rule that refuses a ticket that does not open: P3 where the key's version or type is not the ticket's, P4 where the ticket
 -- does not open or what was sealed does not read
+abbrev pub opening_rule : Unopened → Rule
+opening_rule WrongKey = P3
+opening_rule Unreadable = P4
+
+abbrev pub ruled : {X : Type 0} → Result X Unopened → Result X Rule
+ruled (Ok x) = Ok x
+ruled (Err unopened) = Err (opening_rule unopened)
+
+-- what is told of a ticket whose holder is known
 unfoldable pub told_of : DirectoryValue → Ticket → Held → Result (List ℕ) Rule
-told_of dir t h = opened_by CrossEvidence t h.holding >>= told_opened dir h.realm t h.text
+told_of dir t h = ruled (opened_by t h.holding) >>= told_opened dir h.realm t h.text
 
 -- what is told of a ticket; P2 where its realm and name give no holder of a key
 abbrev pub explained_ticket : DirectoryValue → Ticket → Result (List ℕ) Rule

@@ -2,8 +2,10 @@
 use Rattle.std.specs.Prelude.{ℕ, List, ◌∷◌, ◌++◌, codes, decimal}
 use Rattle.std.specs.Fmt.{signed_decimal}
 use Rattle.krb_tickets.specs.declared.ticket.Ticket.{Ticket}
-use Rattle.ticket_records.specs.declared.ticket_rec.TicketRec.{TicketRec}
-use Rattle.ticket_explain.specs.Words.{at_realm, delegation_text, flag_names, kvno_text, listed, name_text, sid_text, time_text}
+use Rattle.kdc_records.specs.declared.ticket_rec.TicketRec.{TicketRec}
+use Rattle.krb_names.specs.NameTexts.{at_realm, name_text}
+use Rattle.krb_names.specs.SidValue.{sid_text}
+use Rattle.ticket_explain.specs.Words.{delegation_text, flag_names, kvno_text, listed, time_text}
 
 -- `ticket NAME@REALM etype E kvno V`
 unfoldable pub ticket_line : Ticket → List ℕ

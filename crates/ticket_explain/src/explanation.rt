@@ -1,22 +1,23 @@
 //! A ticket in words.
-ghost use Rattle.std.specs.Prelude.{◌≡◌, ◌<◌, ◌≤◌, ◌^◌, IfOk, length};
+ghost use Rattle.std.specs.Prelude.{◌≡◌, ◌+◌, ◌<◌, ◌^◌, IfOk, length};
 ghost use Rattle.kdc_prelude.specs.Answers.{Answers};
 ghost use Rattle.kdc_prelude.specs.Lines.{without_last_newline};
 ghost use Rattle.der_core.specs.Codec.{whole};
 ghost use Rattle.krb_tickets.specs.EncTicketPart.{enc_ticket_part};
 ghost use Rattle.krb_tickets.specs.Ticket.{ticket};
-ghost use Rattle.ticket_explain.specs.Explained.{denied, explained, explained_reading, explained_ticket, lines, told_of, told_opened};
+ghost use Rattle.ticket_laws.specs.Writable.{IsWritablePart};
+ghost use Rattle.ticket_explain.specs.Explained.{denied, explained, explained_reading, explained_ticket, lines, opening_rule, told_of, told_opened};
 
 use crate::fault::ExplainFault;
 use crate::holders::{Held, find_holder};
 use crate::lines::{push_holder_line, push_record_lines, push_ticket_line};
 use dir_core::{Directory, Rule};
 use hex::FromHexError;
+use kdc_records::TicketRec;
 use krb_names::Text;
 use krb_tickets::{Ticket, TicketFault, read_ticket};
 use std::alloc::{AllocError, Global};
-use ticket_codec::{Opened, Role, open_held, present};
-use ticket_records::TicketRec;
+use ticket_codec::{OpenFault, Opened, Unopened, certify, open_held};
 
 /// The lines that are printed of a ticket, which is given as one line of hex, in either case and with or without a newline at
 /// its end. It is opened with the key of the one that its realm and name give as the directory is now.
@@ -26,7 +27,7 @@ use ticket_records::TicketRec;
 /// holder of a key, `P3` where its key version or type is not the holder's, `P4` where it does not open or what was sealed does
 /// not read, `P5` where its PAC does not read or a signature is wrong; `NoMemory`.
 pub fn explain(alloc: Global, dir: &Directory, bytes: &[u8]) -> Result<Text, ExplainFault>
-    requires { length bytes.now ≤ 1048576 }
+    requires { length bytes.now < 2 ^ 32 }
     ensures exact { Answers ExplainFault.NoMemory result (denied (explained dir.now bytes.now)) }
 {
     match hex::decode(alloc, without_last_newline(bytes)) {
@@ -46,7 +47,7 @@ fn without_last_newline(bytes: &[u8]) -> &[u8]
 }
 
 fn explain_bytes(alloc: Global, dir: &Directory, bytes: &[u8]) -> Result<Text, ExplainFault>
-    requires { length bytes.now < 2 ^ 20 }
+    requires { length bytes.now < 2 ^ 31 }
     ensures { Answers ExplainFault.NoMemory result (denied (explained_reading dir.now (whole ticket bytes.now))) }
 {
     match read_ticket(alloc, bytes) {
@@ -57,7 +58,7 @@ fn explain_bytes(alloc: Global, dir: &Directory, bytes: &[u8]) -> Result<Text, E
 }
 
 fn explain_ticket(alloc: Global, dir: &Directory, ticket: &Ticket) -> Result<Text, ExplainFault>
-    requires { length ticket.now.sealed.cipher < 2 ^ 22 }
+    requires { length ticket.now.sealed.cipher < 2 ^ 31 }
     ensures { Answers ExplainFault.NoMemory result (denied (explained_ticket dir.now ticket.now)) }
 {
     match find_holder(alloc, dir, ticket)? {
@@ -66,17 +67,32 @@ fn explain_ticket(alloc: Global, dir: &Directory, ticket: &Ticket) -> Result<Tex
     }
 }
 
+/// The rule that refuses a ticket that does not open.
+fn opening_rule(unopened: Unopened) -> Rule
+    ensures { result ≡ opening_rule unopened }
+{
+    match unopened {
+        Unopened::WrongKey => Rule::P3,
+        Unopened::Unreadable => Rule::P4,
+    }
+}
+
 /// What is told of a ticket whose holder is known.
+#[tactic(auto, unfolding(crate::specs::Explained::told_of))]
 fn tell(alloc: Global, dir: &Directory, ticket: &Ticket, held: Held) -> Result<Text, ExplainFault>
     requires realm { held.realm < length dir.now.realms }
-    requires short { length ticket.now.sealed.cipher < 2 ^ 22 }
+    requires short { length ticket.now.sealed.cipher < 2 ^ 31 }
     ensures { Answers ExplainFault.NoMemory result (denied (told_of dir.now ticket.now held)) }
 {
-    let opened = open_held(alloc, Role::CrossEvidence, ticket, held.holding)?;
-    tell_opened(alloc, dir, held.realm, ticket, held.text.as_str(), &opened)
+    match open_held(alloc, ticket, held.holding) {
+        Ok(opened) => tell_opened(alloc, dir, held.realm, ticket, held.text.as_str(), &opened),
+        Err(OpenFault::Unopened(unopened)) => Err(ExplainFault::Deny(opening_rule(unopened))),
+        Err(OpenFault::NoMemory) => Err(ExplainFault::NoMemory),
+    }
 }
 
 /// What is told of a ticket of the realm at an index that was opened.
+#[tactic(auto, unfolding(crate::specs::Explained::told_opened))]
 fn tell_opened(
     alloc: Global,
     dir: &Directory,
@@ -86,12 +102,14 @@ fn tell_opened(
     opened: &Opened,
 ) -> Result<Text, ExplainFault>
     requires realm { at < length dir.now.realms }
-    requires fits { enc_ticket_part.Fits opened.now.part }
-    requires short { length (enc_ticket_part.spelling opened.now.part) < 2 ^ 27 }
+    requires writable { IsWritablePart opened.now.part }
+    requires short { length (enc_ticket_part.spelling opened.now.part) + 16 < 2 ^ 32 }
     ensures { Answers ExplainFault.NoMemory result (denied (told_opened dir.now at ticket.now holder.now opened.now)) }
 {
-    let certified = present(alloc, dir, at, Role::CrossEvidence, opened)?;
-    Ok(lines(alloc, ticket, holder, &certified.rec)?)
+    match certify(alloc, dir, at, opened)? {
+        Some(certified) => Ok(lines(alloc, ticket, holder, &certified.rec)?),
+        None => Err(ExplainFault::Deny(Rule::P5)),
+    }
 }
 
 #[tactic(auto, unfolding(crate::specs::Explained::lines))]

@@ -2,7 +2,6 @@
 
 use dir_core::Rule;
 use std::alloc::AllocError;
-use ticket_codec::ShowFault;
 
 /// Why a ticket is not explained.
 #[derive(Clone, Copy, Debug, PartialEq, Eq)]
@@ -21,19 +20,5 @@ impl From<AllocError> for ExplainFault {
 
     fn from(_: AllocError) -> ExplainFault {
         ExplainFault::NoMemory
-    }
-}
-
-impl From<ShowFault> for ExplainFault {
-    ghost use Rattle.std.specs.Prelude.{◌≡◌};
-    ghost use Rattle.ticket_explain.specs.Faults.{fault_of};
-
-    ghost from_gives = { λ shown fault. fault ≡ fault_of shown };
-
-    fn from(fault: ShowFault) -> ExplainFault {
-        match fault {
-            ShowFault::Deny(rule) => ExplainFault::Deny(rule),
-            ShowFault::NoMemory => ExplainFault::NoMemory,
-        }
     }
 }

@@ -1,18 +1,15 @@
 //! Whose key opens a ticket.
-ghost use Rattle.std.specs.Prelude.{◌≡◌, ◌++◌, ◌<◌, codes, IfOk, IfSome, length, OnOk, option_map, slice_get, Some, string_bytes};
-ghost use Rattle.std.specs.Option.{option_copied};
-ghost use Rattle.krb_names.specs.SidValue.{followed_by};
-ghost use Rattle.dir_records.specs.declared.records.RealmRec.{RealmRec};
-ghost use Rattle.ticket_explain.specs.Holders.{account_named, account_text, held, held_by_account, held_by_krbtgt, held_by_name, held_by_trust, krbtgt_realm, trust_text};
-ghost use Rattle.ticket_explain.specs.Words.{at_realm, sid_text};
+ghost use Rattle.std.specs.Prelude.{◌≡◌, ◌++◌, ◌<◌, codes, IfOk, IfSome, length, OnOk, option_map, string_bytes};
+ghost use Rattle.krb_names.specs.NameTexts.{at_realm};
+ghost use Rattle.krb_names.specs.SidValue.{followed_by, sid_text};
+ghost use Rattle.ticket_explain.specs.Holders.{account_named, account_text, aim_named, aim_text, held, held_by, krbtgt_realm, trust_text};
 
-use crate::words::{push_at_realm, push_number, push_sid};
-use dir_core::{Account, Directory, RealmRec};
-use krb_names::{Principal, Sid, Text};
+use dir_core::{Account, Aim, Directory, RealmRec, Trust};
+use krb_names::{Principal, Sid, Text, push_at_realm, push_number, push_sid};
 use krb_tickets::Ticket;
 use route_rules::resolve_account;
 use std::alloc::{AllocError, Global};
-use ticket_codec::{Holding, account_holding, krbtgt_holding, trust_holding};
+use ticket_codec::{Holding, aim_holding, find_trust};
 
 /// Whose key opens a ticket.
 #[derive(Debug, Drop)]
@@ -35,13 +32,13 @@ fn krbtgt_text(alloc: Global, realm: &RealmRec) -> Result<Text, AllocError>
 }
 
 /// `trust REALM PARTNER`.
-fn trust_text(alloc: Global, realm: &RealmRec, partner: &str) -> Result<Text, AllocError>
-    ensures { IfOk result (λ text. text ≡ trust_text realm.now partner.now) }
+fn trust_text(alloc: Global, realm: &RealmRec, trust: &Trust) -> Result<Text, AllocError>
+    ensures { IfOk result (λ text. text ≡ trust_text realm.now trust.now) }
 {
     let mut text = String::from_str(alloc, "trust ")?;
     text.push_str(realm.name.as_str())?;
     text.push_str(" ")?;
-    text.push_str(partner)?;
+    text.push_str(trust.partner.as_str())?;
     Ok(Text::from_string(text))
 }
 
@@ -65,51 +62,21 @@ fn account_text(alloc: Global, realm: &RealmRec, account: &Account) -> Result<Te
     Ok(Text::from_string(text))
 }
 
-/// The ticket-granting service of the realm at an index.
-fn held_by_krbtgt(alloc: Global, at: u32, realm: &RealmRec) -> Result<Held, AllocError>
-    ensures { IfOk result (λ found. found ≡ held_by_krbtgt at realm.now) }
+/// An aim of a realm in words.
+fn aim_text(alloc: Global, realm: &RealmRec, aim: Aim) -> Result<Option<Text>, AllocError>
+    ensures { IfOk result (λ text. text ≡ aim_text realm.now aim) }
 {
-    Ok(Held {
-        realm: at,
-        holding: krbtgt_holding(alloc, realm)?,
-        text: krbtgt_text(alloc, realm)?,
-    })
-}
-
-/// The trust in a partner of the realm at an index.
-fn held_by_trust(
-    alloc: Global,
-    at: u32,
-    realm: &RealmRec,
-    partner: &str,
-) -> Result<Option<Held>, AllocError>
-    ensures value { IfOk result (λ found. found ≡ held_by_trust at realm.now partner.now) }
-    ensures only { IfOk result (λ found. IfSome found (λ h. h.realm ≡ at)) }
-{
-    match trust_holding(alloc, partner, realm)? {
-        None => Ok(None),
-        Some(holding) => Ok(Some(Held {
-            realm: at,
-            holding,
-            text: trust_text(alloc, realm, partner)?,
-        })),
+    match aim {
+        Aim::Krbtgt => Ok(Some(krbtgt_text(alloc, realm)?)),
+        Aim::Hop(at) => match realm.trusts.get(at as usize) {
+            Some(trust) => Ok(Some(trust_text(alloc, realm, trust)?)),
+            None => Ok(None),
+        },
+        Aim::Account(at) => match realm.accounts.get(at as usize) {
+            Some(account) => Ok(Some(account_text(alloc, realm, account)?)),
+            None => Ok(None),
+        },
     }
-}
-
-/// An account of the realm at an index.
-fn held_by_account(
-    alloc: Global,
-    at: u32,
-    realm: &RealmRec,
-    account: &Account,
-) -> Result<Held, AllocError>
-    ensures { IfOk result (λ found. found ≡ held_by_account at realm.now account.now) }
-{
-    Ok(Held {
-        realm: at,
-        holding: account_holding(alloc, realm, account)?,
-        text: account_text(alloc, realm, account)?,
-    })
 }
 
 /// The realm of a name `krbtgt/REALM`.
@@ -128,48 +95,69 @@ fn krbtgt_realm(name: &Principal) -> Option<&str>
     }
 }
 
-/// The account that a name gives, where it is of the realm at an index.
+/// The index of the account that a name gives, where it is of the realm at an index.
 #[tactic(auto, unfolding(crate::specs::Holders::account_named))]
-fn account_named<'a>(dir: &'a Directory, at: u32, name: &Principal) -> Option<&'a Account>
+fn account_named(dir: &Directory, at: u32, name: &Principal) -> Option<u32>
     requires { at < length dir.now.realms }
-    ensures { option_copied result ≡ account_named dir.now at name.now }
+    ensures { result ≡ account_named dir.now at name.now }
 {
     match resolve_account(dir, at, name) {
-        Some((realm, account)) => {
-            if realm == at {
-                dir.account_at(at, account)
-            } else {
-                None
-            }
-        }
+        Some((realm, account)) => { if realm == at { Some(account) } else { None } }
         None => None,
     }
 }
 
-/// The holder in the realm at an index, by a ticket's name.
-fn held_by_name(
-    alloc: Global,
-    dir: &Directory,
-    at: u32,
-    name: &Principal,
-) -> Result<Option<Held>, AllocError>
-    requires { at < length dir.now.realms }
-    ensures value { IfOk result (λ found. (realm : RealmRec) → slice_get dir.now.realms at ≡ Some realm → found ≡ held_by_name dir.now at realm name.now (krbtgt_realm name.now.parts)) }
-    ensures only { IfOk result (λ found. IfSome found (λ h. h.realm ≡ at)) }
+fn hop_aim(trust: Option<u32>) -> Option<Aim>
+    ensures { result ≡ option_map Aim.Hop trust }
 {
-    let realm = dir.realm(at);
+    Some(Aim::Hop(trust?))
+}
+
+fn account_aim(account: Option<u32>) -> Option<Aim>
+    ensures { result ≡ option_map Aim.Account account }
+{
+    Some(Aim::Account(account?))
+}
+
+/// What the realm at an index has sealed a ticket of this name for.
+fn aim_named(dir: &Directory, at: u32, realm: &RealmRec, name: &Principal) -> Option<Aim>
+    requires { at < length dir.now.realms }
+    ensures { result ≡ aim_named dir.now at realm.now name.now (krbtgt_realm name.now.parts) }
+{
     match krbtgt_realm(name) {
         Some(other) => {
             if other == realm.name.as_str() {
-                Ok(Some(held_by_krbtgt(alloc, at, realm)?))
+                Some(Aim::Krbtgt)
             } else {
-                held_by_trust(alloc, at, realm, other)
+                hop_aim(find_trust(dir, at, other))
             }
         }
-        None => match account_named(dir, at, name) {
-            Some(account) => Ok(Some(held_by_account(alloc, at, realm, account)?)),
-            None => Ok(None),
-        },
+        None => account_aim(account_named(dir, at, name)),
+    }
+}
+
+/// The holder of an aim of the realm at an index, in words too.
+fn held_by(
+    alloc: Global,
+    dir: &Directory,
+    at: u32,
+    realm: &RealmRec,
+    aim: Aim,
+) -> Result<Option<Held>, AllocError>
+    requires { at < length dir.now.realms }
+    ensures value { IfOk result (λ found. found ≡ held_by dir.now at realm.now aim) }
+    ensures only { IfOk result (λ found. IfSome found (λ h. h.realm ≡ at)) }
+{
+    let Some(holding) = aim_holding(alloc, dir, at, aim)? else {
+        return Ok(None);
+    };
+    match aim_text(alloc, realm, aim)? {
+        Some(text) => Ok(Some(Held {
+            realm: at,
+            holding,
+            text,
+        })),
+        None => Ok(None),
     }
 }
 
@@ -185,8 +173,12 @@ pub(crate) fn find_holder(
     ensures value { IfOk result (λ found. found ≡ held dir.now ticket.now) }
     ensures within { IfOk result (λ found. IfSome found (λ h. h.realm < length dir.now.realms)) }
 {
-    match dir.realm_by_name(ticket.realm.as_str()) {
-        Some(at) => held_by_name(alloc, dir, at, &ticket.sname),
+    let Some(at) = dir.realm_by_name(ticket.realm.as_str()) else {
+        return Ok(None);
+    };
+    let realm = dir.realm(at);
+    match aim_named(dir, at, realm, &ticket.sname) {
+        Some(aim) => held_by(alloc, dir, at, realm, aim),
         None => Ok(None),
     }
 }

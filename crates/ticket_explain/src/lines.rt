@@ -2,14 +2,12 @@
 ghost use Rattle.std.specs.Prelude.{◌≡◌, ◌++◌, OnOk, string_bytes};
 ghost use Rattle.ticket_explain.specs.Lines.{client_line, delegation_line, flags_line, holder_line, record_lines, subject_line, ticket_line, times_line, transited_line};
 
-use crate::words::{
-    flag_names, push_at_realm, push_delegation, push_kvno, push_listed, push_name, push_number,
-    push_sid, push_time,
-};
+use crate::words::{flag_names, push_delegation, push_kvno, push_listed, push_time};
 use itoa::Buffer;
+use kdc_records::TicketRec;
+use krb_names::{push_at_realm, push_name, push_number, push_sid};
 use krb_tickets::Ticket;
 use std::alloc::{AllocError, Global};
-use ticket_records::TicketRec;
 
 /// `ticket NAME@REALM etype E kvno V`.
 #[tactic(auto, unfolding(crate::specs::Lines::ticket_line))]

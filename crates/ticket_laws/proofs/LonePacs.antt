@@ -91,7 +91,7 @@ pac_is_writable pac are_bytes =
 -- ---- the PAC
 
 -- the element is read again
-pac_read : (pac : List ℕ) → length pac < 2 ^ 26 → whole (sequence_of auth_item) (pac_item pac).content ≡ Ok (pac_element pac ∷ [])
+pac_read : (pac : List ℕ) → length pac < 2 ^ 31 → whole (sequence_of auth_item) (pac_item pac).content ≡ Ok (pac_element pac ∷ [])
 pac_read pac few =
     let lawful = alone_lawful (sequence_of auth_item) (sequence_of_lawful auth_item auth_item_lawful) in
     let elements : List AuthItem = pac_element pac ∷ [] in
@@ -103,7 +103,7 @@ unfolding elements_in
 read_in content elements short read =
     ap (λ t. cond t (or_none (whole (sequence_of auth_item) content)) []) (lt-ltb (length content) (2 ^ 32) short) ∙ ap or_none read
 
-pac_elements : (pac : List ℕ) → length pac < 2 ^ 26 → elements_of (pac_item pac) ≡ pac_element pac ∷ []
+pac_elements : (pac : List ℕ) → length pac < 2 ^ 31 → elements_of (pac_item pac) ≡ pac_element pac ∷ []
 pac_elements pac few = read_in (pac_item pac).content (pac_element pac ∷ []) (omega (arith, content_within pac, few)) (pac_read pac few)
 
 pub pac_is_found : PacIsFound
@@ -113,7 +113,7 @@ pac_is_found p pac few =
     ap the_one (one ∙ ap pacs_in (pac_elements pac few))
 
 -- the item with one zero byte in place of its PAC
-item_zeroed : (pac : List ℕ) → length pac < 2 ^ 26 → item_without_pac (pac_item pac) ≡ pac_item (0 ∷ [])
+item_zeroed : (pac : List ℕ) → length pac < 2 ^ 31 → item_without_pac (pac_item pac) ≡ pac_item (0 ∷ [])
 item_zeroed pac few =
     ap (λ (elements : List AuthItem). cond (list_any is_pac elements) (record (pac_item pac) { content = (sequence_of auth_item).spelling (map zeroed elements) }) (pac_item pac)) (pac_elements pac few)
 

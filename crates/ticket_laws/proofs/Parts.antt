@@ -21,7 +21,7 @@ use Rattle.krb_tickets.specs.Laws.{enc_ticket_part_lawful}
 use Rattle.krb_tickets.specs.HostAddress.{host_address}
 use Rattle.krb_tickets.specs.PrincipalName.{name_of, principal_name}
 use Rattle.krb_tickets.specs.Transited.{transited}
-use Rattle.time_laws.specs.TimeLaw.{written_again}
+use Rattle.krb_names.proofs.TimeLaw.{written_again}
 use Rattle.ticket_laws.specs.Laws.{PartFits, PartIsWritable, PartIsShort, ReadPartIsWritable}
 use Rattle.ticket_laws.specs.Writable.{IsWritableItem, IsWritablePart}
 use Rattle.ticket_laws.proofs.Bytes.{AreOfBytes, Keeps, field_keeps, field_passed, optional_passed, dropped_passed, key_keeps, last, last_keeps}

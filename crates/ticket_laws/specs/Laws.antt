@@ -16,11 +16,11 @@ use Rattle.ticket_laws.specs.Writable.{IsWritableItem, IsWritablePart, IsWritabl
 
 -- the PAC is found
 abbrev pub PacIsFound : Type 0
-PacIsFound = (p : EncTicketPart) (pac : List ℕ) → length pac < 2 ^ 26 → pac_of (record p { items = only_pac pac }) ≡ Some pac
+PacIsFound = (p : EncTicketPart) (pac : List ℕ) → length pac < 2 ^ 31 → pac_of (record p { items = only_pac pac }) ≡ Some pac
 
 -- and without it one zero byte stands in its place
 abbrev pub PacIsZeroed : Type 0
-PacIsZeroed = (p : EncTicketPart) (pac : List ℕ) → length pac < 2 ^ 26 → without_pac (record p { items = only_pac pac }) ≡ record p { items = only_pac (0 ∷ []) }
+PacIsZeroed = (p : EncTicketPart) (pac : List ℕ) → length pac < 2 ^ 31 → without_pac (record p { items = only_pac pac }) ≡ record p { items = only_pac (0 ∷ []) }
 
 -- at most 64 bytes stand round it
 abbrev pub PacIsShort : Type 0

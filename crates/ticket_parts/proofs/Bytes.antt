@@ -1,5 +1,5 @@
 -- The bytes of a signed PAC are bytes.
-use Rattle.std.proofs.Common.{◌≡◌, ℕ, zero, suc, ◌+◌, ◌*◌, ◌<◌, ◌⊎◌, inl, inr, ℤ, Bool, true, false, cond, List, [], ◌∷◌, ◌++◌, get_or, length, take, replicate, Option, Some, None, refl, sym, ap, subst, ◌∙◌, arith}
+use Rattle.std.proofs.Common.{ℕ, zero, suc, ℤ, Bool, true, false, cond, List, [], ◌∷◌, ◌++◌, get_or, length, take, replicate, Option, Some, None, sym, subst}
 use Rattle.std.specs.Prelude.{IfSome, nat_eq}
 use Rattle.std.specs.List.{AllByRecursion, flat_map}
 use Rattle.std.specs.Int.{w32, w64, to_be_bytes, to_le_bytes}
@@ -11,7 +11,7 @@ use Rattle.krb_names.specs.Keys.{key_bytes}
 use Rattle.ndr_core.specs.Laws.{IsBytes}
 use Rattle.ndr_core.specs.Object.{padded}
 use Rattle.pac_buffers.specs.declared.info_buffer.InfoBuffer.{InfoBuffer}
-use Rattle.pac_buffers.specs.Buffers.{Buffer, built, contents, entry_bytes, header, pac, placed, unsigned, with_sum, with_value}
+use Rattle.pac_buffers.specs.Buffers.{Buffer, built, contents, entry_bytes, header, pac, placed, unsigned, with_sum}
 use Rattle.pac_buffers.specs.Container.{list_end}
 use Rattle.pac_buffers.specs.Signature.{natural}
 use Rattle.pac_laws.proofs.Bytes.{IsBytes-append, IsBytes-be, IsBytes-cons, IsBytes-le, IsBytes-nil, IsBytes-tail, IsBytes-zeros, padded_keeps}

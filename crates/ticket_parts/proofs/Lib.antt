@@ -1,3 +1,4 @@
+pub mod Steps
 pub mod Names
 pub mod Bytes
 pub mod Values

@@ -1,5 +1,5 @@
 -- Names are texts, and short.
-use Rattle.std.proofs.Common.{◌≡◌, ℕ, ◌+◌, ◌-◌, ◌*◌, ◌/◌, ◌%◌, ◌<◌, ◌≤◌, ◌⊎◌, inl, inr, Bool, true, false, ◌&&◌, cond, List, [], ◌∷◌, ◌++◌, length, refl, sym, ap, subst, ◌∙◌, length-append, arith, lt-ltb, le-ltb}
+use Rattle.std.proofs.Common.{◌≡◌, ℕ, ◌+◌, ◌-◌, ◌*◌, ◌/◌, ◌%◌, ◌<◌, ◌≤◌, ◌⊎◌, inl, inr, Bool, true, false, cond, List, [], ◌∷◌, ◌++◌, length, refl, ap, subst, ◌∙◌, length-append, arith, lt-ltb, le-ltb}
 use Rattle.std.specs.Prelude.{flat_map}
 use Rattle.std.specs.Str.{IsUtf8, chars, encode_utf8_all}
 use Rattle.std.specs.Char.{len_utf8}
@@ -12,7 +12,8 @@ use Rattle.krb_names.specs.Utf16.{unit_octets, utf16le_text}
 use Rattle.krb_names.proofs.Units.{char_octets, by_chars}
 use Rattle.pac_logon.specs.Logon.{IsNdrText}
 use Rattle.ticket_laws.proofs.Texts.{name_short}
-use Rattle.ticket_parts.specs.Names.{client_name, is_user}
+use Rattle.kdc_records.specs.Parties.{is_user}
+use Rattle.ticket_parts.specs.Names.{client_name}
 use Rattle.ticket_parts.specs.Sound.{IsNameText}
 
 -- ---- UTF-16 is at most twice as long as UTF-8

@@ -1,7 +1,7 @@
 -- A record that is told of a part can be made into one.
-use Rattle.std.proofs.Common.{◌≡◌, ℕ, ◌+◌, ◌<◌, ◌≤◌, ◌^◌, Bool, true, false, ◌&&◌, cond, List, [], ◌∷◌, ◌++◌, length, map, take, drop, Option, Some, None, Ok, Err, refl, sym, ap, subst, ◌∙◌, length-append, arith}
+use Rattle.std.proofs.Common.{◌≡◌, ℕ, ◌+◌, ◌<◌, ◌≤◌, ◌^◌, Bool, true, false, cond, List, [], ◌∷◌, ◌++◌, length, map, drop, Option, Some, None, Ok, Err, refl, sym, ap, subst, ◌∙◌, length-append, arith}
 use Rattle.std.specs.Prelude.{Result, IfOk, IfSome, nat_lt, option_map, unwrap_or}
-use Rattle.std.specs.List.{AllByRecursion, filter, flat_map}
+use Rattle.std.specs.List.{AllByRecursion, filter}
 use Rattle.std.proofs.lemmas.List.Concat.{flat_map-cons}
 use Rattle.std.proofs.lemmas.List.Elements.{All-push}
 use Rattle.der_core.specs.declared.refusal.DerRefusal.{DerRefusal}
@@ -25,7 +25,7 @@ use Rattle.ndr_core.specs.Object.{object}
 use Rattle.pac_buffers.specs.declared.client_info.ClientInfo.{ClientInfo}
 use Rattle.pac_buffers.specs.declared.delegation_info.DelegationInfo.{DelegationInfo}
 use Rattle.pac_buffers.specs.declared.info_buffer.InfoBuffer.{InfoBuffer}
-use Rattle.pac_buffers.specs.Container.{buffer_of, entry_of, pac_fault, slice_of}
+use Rattle.pac_buffers.specs.Container.{buffer_of, entry_of, slice_of}
 use Rattle.pac_buffers.specs.Delegation.{delegation}
 use Rattle.pac_laws.specs.Writable.{IsWritableDelegation}
 use Rattle.pac_laws.proofs.Bytes.{IsBytes-drop}
@@ -34,14 +34,14 @@ use Rattle.pac_logon.specs.declared.logon_info.LogonInfo.{LogonInfo}
 use Rattle.pac_logon.specs.Logon.{IsDomainSid, IsWritable, logon}
 use Rattle.ticket_laws.specs.Writable.{IsWritableItem, IsWritablePart}
 use Rattle.ticket_laws.proofs.Bytes.{AreOfBytes, item_keeps}
-use Rattle.ticket_records.specs.declared.holder.Holder.{Holder}
-use Rattle.ticket_records.specs.declared.ticket_rec.TicketRec.{TicketRec}
+use Rattle.kdc_records.specs.declared.holder.Holder.{Holder}
 use Rattle.ticket_parts.specs.declared.pac_values.PacValue.{PacValue}
-use Rattle.ticket_parts.specs.declared.reading.Certified.{Certified}
-use Rattle.ticket_parts.specs.Parts.{bare_part, delegation_of}
-use Rattle.ticket_parts.specs.Records.{client_agrees, client_in, delegation_from, delegation_reading, has_names, logon_in, or_nothing, pac_reading, record_of, record_with, subject_of, such_that, value_in}
+use Rattle.ticket_parts.specs.declared.reading.ReadRecord.{ReadRecord}
+use Rattle.ticket_parts.specs.Parts.{delegation_of}
+use Rattle.ticket_parts.specs.Records.{client_in, delegation_from, delegation_reading, has_names, logon_in, or_nothing, pac_reading, read_with, record_by, record_of, record_with, subject_of, such_that, value_in}
 use Rattle.ticket_parts.specs.Sound.{IsSound, IsSoundSubject, IsUserSid}
 use Rattle.ticket_parts.proofs.Bytes.{IsBytes-take}
+use Rattle.ticket_parts.proofs.Steps.{record_is}
 
 some_is : {X : Type 0} (x y : X) → Some x ≡ Some y → x ≡ y
 some_is x y e = cc
@@ -202,29 +202,23 @@ with_sound holder p value w h named = record {
   delegation = again_by value.delegation h.delegation;
 }
 
-abbrev certified : Holder → EncTicketPart → PacValue → Certified
-certified holder p value = record { rec = record_with holder p value; agrees = client_agrees p value }
+told_by : (held : Holder) (p : EncTicketPart) (read : ReadRecord) (bytes : List ℕ) (o : Option PacValue) → IsWritablePart p → IsBytes bytes → pac_reading bytes ≡ o → option_map (read_with held p) o ≡ Some read → IsSound read.rec
+told_by held p read bytes None w h is e = absurd cc
+told_by held p read bytes (Some value) w h is e =
+    let said = pac_read bytes value h is in
+    subst (λ (r : ReadRecord). IsSound r.rec) (some_is (read_with held p value) read e) (with_sound held p value w said.0 said.1)
 
-abbrev told_of : Holder → EncTicketPart → PacValue → Option Certified
-told_of holder p value = Some (certified holder p value)
-
-told_by : (holder : Holder) (p : EncTicketPart) (c : Certified) (bytes : List ℕ) (o : Option PacValue) → IsWritablePart p → IsBytes bytes → pac_reading bytes ≡ o → (o >>= told_of holder p) ≡ Some c → IsSound c.rec
-told_by holder p c bytes None w h is e = absurd cc
-told_by holder p c bytes (Some value) w h is e =
-    let read = pac_read bytes value h is in
-    subst (λ (d : Certified). IsSound d.rec) (some_is (certified holder p value) c e) (with_sound holder p value w read.0 read.1)
-
-pub read_is_sound : (holder : Holder) (p : EncTicketPart) (c : Certified) → IsWritablePart p → record_of holder p ≡ Some c → IsSound c.rec
-read_is_sound holder p c w e = by_pac (pac_of p) refl e
+pub read_is_sound : (held : Holder) (p : EncTicketPart) (read : ReadRecord) → IsWritablePart p → record_of held p ≡ Some read → IsSound read.rec
+read_is_sound held p read w e = by_pac (pac_of p) refl (sym (record_is held p) ∙ e)
   where
-    by_pac : (o : Option (List ℕ)) → pac_of p ≡ o → (o >>= λ bytes. pac_reading bytes >>= told_of holder p) ≡ Some c → IsSound c.rec
+    by_pac : (o : Option (List ℕ)) → pac_of p ≡ o → (o >>= record_by held p) ≡ Some read → IsSound read.rec
     by_pac None is told = absurd cc
-    by_pac (Some bytes) is told = told_by holder p c bytes (pac_reading bytes) w (one_of_bytes (pacs p.items) bytes (pacs_of_bytes p.items w.items) is) refl told
+    by_pac (Some bytes) is told = told_by held p read bytes (pac_reading bytes) w (one_of_bytes (pacs p.items) bytes (pacs_of_bytes p.items w.items) is) refl told
 
-found_by : (holder : Holder) (p : EncTicketPart) (found : Option Certified) → found ≡ record_of holder p → IsWritablePart p → IfSome found (λ c. IsSound c.rec)
-found_by holder p None e w = tt
-found_by holder p (Some c) e w = read_is_sound holder p c w (sym e)
+found_by : (held : Holder) (p : EncTicketPart) (found : Option ReadRecord) → found ≡ record_of held p → IsWritablePart p → IfSome found (λ read. IsSound read.rec)
+found_by held p None e w = tt
+found_by held p (Some read) e w = read_is_sound held p read w (sym e)
 
-pub answer_is_sound : {E : Type 0} (holder : Holder) (p : EncTicketPart) (r : Result (Option Certified) E) → IfOk r (λ found. found ≡ record_of holder p) → IsWritablePart p → IfOk r (λ found. IfSome found (λ c. IsSound c.rec))
-answer_is_sound holder p (Ok found) e w = found_by holder p found e w
-answer_is_sound holder p (Err fault) e w = tt
+pub answer_is_sound : {E : Type 0} (held : Holder) (p : EncTicketPart) (r : Result (Option ReadRecord) E) → IfOk r (λ found. found ≡ record_of held p) → IsWritablePart p → IfOk r (λ found. IfSome found (λ read. IsSound read.rec))
+answer_is_sound held p (Ok found) e w = found_by held p found e w
+answer_is_sound held p (Err fault) e w = tt

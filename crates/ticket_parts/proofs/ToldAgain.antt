@@ -1,7 +1,8 @@
 -- The part of a record tells of the record, and its signatures verify.
-use Rattle.std.proofs.Common.{◌≡◌, ℕ, ◌<◌, ◌^◌, pos, Bool, true, false, ◌&&◌, cond, List, [], ◌∷◌, length, Option, Some, None, Ok, Err, refl, sym, ap, subst, ◌∙◌, arith, lt-ltb}
+use Rattle.std.proofs.Common.{◌≡◌, ℕ, ◌^◌, pos, Bool, true, false, ◌&&◌, cond, List, [], ◌∷◌, length, Option, Some, None, Ok, refl, sym, ap, subst, ◌∙◌, arith, lt-ltb}
 use Rattle.std.specs.Prelude.{◌==◌, Result, IfSome, is_none, is_some, nat_lt, option_map}
 use Rattle.std.proofs.lemmas.Bool.{eq-eqb}
+use lib.Pointwise.{bytes_decides}
 use Rattle.kdc_prelude.specs.Steps.{◌>>=◌}
 use Rattle.kdc_prelude.specs.Texts.{same_text}
 use Rattle.kdc_prelude.specs.Verdicts.{first_failing}
@@ -19,10 +20,11 @@ use Rattle.pac_buffers.specs.Buffers.{built, content_of, is_signature, pac}
 use Rattle.pac_buffers.specs.Client.{client}
 use Rattle.pac_buffers.specs.Container.{buffer_of, pac_fault}
 use Rattle.pac_buffers.specs.Delegation.{delegation}
+use Rattle.pac_buffers.proofs.Built.{few_together}
 use Rattle.pac_buffers.proofs.Contents.{buffer_is}
 use Rattle.pac_buffers.proofs.Faults.{no_fault}
 use Rattle.pac_laws.specs.Writable.{IsWritableDelegation}
-use Rattle.pac_laws.proofs.Written.{client_read, client_short, delegation_read, delegation_short, logon_short}
+use Rattle.pac_laws.proofs.Written.{client_read, delegation_read}
 use Rattle.pac_logon.specs.declared.logon_info.LogonInfo.{LogonInfo}
 use Rattle.pac_logon.specs.Logon.{logon}
 use Rattle.pac_logon.proofs.Fitting.{logon_again}
@@ -30,19 +32,20 @@ use Rattle.pac_sign.specs.declared.fault.SignFault.TheVariants.{Server, Kdc, Tic
 use Rattle.pac_sign.specs.Signed.{signed}
 use Rattle.pac_sign.specs.Sums.{sum_type}
 use Rattle.pac_sign.specs.Verified.{or_wrong, server_holds, kdc_asked, ticket_asked, verified}
-use Rattle.pac_sign.proofs.Texts.{text_itself}
 use Rattle.pac_sign.proofs.Verifies.{built_right, others_stay}
 use Rattle.ticket_laws.proofs.LonePacs.{pac_is_found, pac_is_zeroed}
-use Rattle.ticket_records.specs.declared.subject.Delegation.{Delegation}
-use Rattle.ticket_records.specs.declared.subject.Subject.{Subject}
-use Rattle.ticket_records.specs.declared.ticket_rec.TicketRec.{TicketRec}
+use Rattle.kdc_records.specs.declared.holder.Holder.{Holder}
+use Rattle.kdc_records.specs.declared.subject.Delegation.{Delegation}
+use Rattle.kdc_records.specs.declared.subject.Subject.{Subject}
+use Rattle.kdc_records.specs.declared.ticket_rec.TicketRec.{TicketRec}
 use Rattle.ticket_parts.specs.declared.pac_values.PacValue.{PacValue}
-use Rattle.ticket_parts.specs.declared.reading.Certified.{Certified}
+use Rattle.ticket_parts.specs.declared.reading.ReadRecord.{ReadRecord}
 use Rattle.ticket_parts.specs.Names.{filetime}
 use Rattle.ticket_parts.specs.Parts.{bare_part, client_of, delegation_of, is_service, logon_of, part, part_with, signed_pac, signed_part, unsigned_pac}
-use Rattle.ticket_parts.specs.Records.{are_signatures_in, client_agrees, client_in, delegation_from, delegation_reading, has_names, logon_in, or_nothing, pac_reading, record_of, record_with, subject_of, such_that, value_in}
+use Rattle.ticket_parts.specs.Records.{are_signatures_in, client_agrees, client_in, delegation_from, delegation_reading, has_names, logon_in, or_nothing, pac_reading, read_with, record_of, record_with, such_that, value_in}
 use Rattle.ticket_parts.specs.Sound.{IsSound}
 use Rattle.ticket_parts.proofs.Contents.{built_delegation, signatures_read}
+use Rattle.ticket_parts.proofs.Steps.{part_is, record_with_pac}
 use Rattle.ticket_parts.proofs.Values.{client_writable, delegation_back, delegation_writable, logon_writable, subject_again}
 use Rattle.ticket_parts.proofs.Written.{client_few, logon_few, short_by, signed_pac_short, signed_pac_sound}
 
@@ -108,28 +111,31 @@ pac_told t holder realm h =
 
 -- ---- the record
 
+pac_within : (t : TicketRec) (holder realm : Key) → IsSound t → pac_of (part_with (pac (signed_pac t holder realm)) t) ≡ Some (pac (signed_pac t holder realm))
+pac_within t holder realm h = pac_is_found (bare_part t) (pac (signed_pac t holder realm)) (omega (arith, signed_pac_short t holder realm h))
+
 pub pac_in_part : (t : TicketRec) (holder realm : Key) → IsSound t → pac_of (part t holder realm) ≡ Some (pac (signed_pac t holder realm))
-pac_in_part t holder realm h = pac_is_found (bare_part t) (pac (signed_pac t holder realm)) (omega (arith, signed_pac_short t holder realm h))
+pac_in_part t holder realm h = ap pac_of (part_is t holder realm) ∙ pac_within t holder realm h
 
 agrees_told : (t : TicketRec) (bytes : List ℕ) → client_agrees (part_with bytes t) (value_of t) ≡ true
 agrees_told t bytes =
     let time : (filetime t.auth == filetime t.auth) ≡ true = eq-eqb _ _ refl in
-    ap (λ (b : Bool). b && same_text (client_of t).name (client_of t).name) time ∙ text_itself (client_of t).name
+    ap (λ (b : Bool). b && same_text (client_of t).name (client_of t).name) time ∙ (bytes_decides (client_of t).name (client_of t).name).1 refl
 
-record_told : (t : TicketRec) (bytes : List ℕ) → IsSound t → record_with t.holder (part_with bytes t) (value_of t) ≡ t
-record_told t bytes h =
-    let made : Subject → Option Delegation → TicketRec = λ s d. record t { subject = s; delegation = d } in
+record_told : (t : TicketRec) (held : Holder) (bytes : List ℕ) → IsSound t → record_with held (part_with bytes t) (value_of t) ≡ record t { holder = held }
+record_told t held bytes h =
+    let made : Subject → Option Delegation → TicketRec = λ s d. record t { holder = held; subject = s; delegation = d } in
     ap (λ (s : Subject). made s (option_map delegation_from (option_map delegation_of t.delegation))) (subject_again t h) ∙ ap (λ (d : Option Delegation). made t.subject d) (delegation_back t.delegation)
 
-pub record_back : (t : TicketRec) (holder realm : Key) → IsSound t → record_of t.holder (part t holder realm) ≡ Some (record { rec = t; agrees = true })
-record_back t holder realm h =
-    let p : EncTicketPart = part t holder realm in
+pub record_back : (t : TicketRec) (held : Holder) (holder realm : Key) → IsSound t → record_of held (part t holder realm) ≡ Some (record { rec = record t { holder = held }; agrees = true })
+record_back t held holder realm h =
     let bytes : List ℕ = pac (signed_pac t holder realm) in
-    let made : TicketRec → Bool → Option Certified = λ r b. Some (record { rec = r; agrees = b }) in
-    let told : PacValue → Option Certified = λ value. made (record_with t.holder p value) (client_agrees p value) in
-    ap (λ (o : Option (List ℕ)). o >>= λ bytes. pac_reading bytes >>= told) (pac_in_part t holder realm h)
-    ∙ ap (λ (o : Option PacValue). o >>= told) (pac_told t holder realm h)
-    ∙ ap (λ (r : TicketRec). made r (client_agrees p (value_of t))) (record_told t bytes h) ∙ ap (made t) (agrees_told t bytes)
+    let p : EncTicketPart = part_with bytes t in
+    let made : TicketRec → Bool → Option ReadRecord = λ r b. Some (record { rec = r; agrees = b }) in
+    ap (record_of held) (part_is t holder realm)
+    ∙ record_with_pac held p bytes (pac_within t holder realm h)
+    ∙ ap (λ (o : Option PacValue). option_map (read_with held p) o) (pac_told t holder realm h)
+    ∙ ap (λ (r : TicketRec). made r (client_agrees p (value_of t))) (record_told t held bytes h) ∙ ap (made (record t { holder = held })) (agrees_told t bytes)
 
 -- ---- the signatures
 
@@ -146,7 +152,7 @@ all_verified t holder realm h =
     let second : List ℕ = packed_spelling client (client_of t) in
     subst (λ (b : Bool). verified holder (Some realm) over (pac (signed holder realm over (built first second delegated b (pos (sum_type holder.etype)) (pos (sum_type realm.etype))))) ≡ Ok tt)
     (some_if (is_service t.holder) (enc_ticket_part.spelling (part_with (0 ∷ []) t)))
-    (built_right holder realm over delegated first second (logon_few t h) (client_few t h) (short_by (option_map delegation_of t.delegation) (delegation_writable t h)))
+    (built_right holder realm over delegated first second (few_together first second delegated (logon_few t h) (client_few t h) (short_by (option_map delegation_of t.delegation) (delegation_writable t h))))
 
 server_by : (s k t : Bool) → or_wrong (first_failing ((Server, s) ∷ (Kdc, k) ∷ (Ticket, t) ∷ [])) ≡ Ok tt → or_wrong (first_failing ((Server, s) ∷ (Kdc, true) ∷ (Ticket, true) ∷ [])) ≡ Ok tt
 server_by true k t h = refl
@@ -162,4 +168,5 @@ pub ticket_covers : (t : TicketRec) (holder realm : Key) → IsSound t → is_se
 ticket_covers t holder realm h service =
     let zeroed : EncTicketPart = part_with (0 ∷ []) t in
     ap (λ (b : Bool). let over : Option (List ℕ) = cond b (Some (enc_ticket_part.spelling zeroed)) None in over) service
-    ∙ ap (λ (p : EncTicketPart). let over : Option (List ℕ) = Some (enc_ticket_part.spelling p) in over) (sym (pac_is_zeroed (bare_part t) (pac (signed_pac t holder realm)) (omega (arith, signed_pac_short t holder realm h))))
+    ∙ ap (λ (p : EncTicketPart). let over : Option (List ℕ) = Some (enc_ticket_part.spelling p) in over)
+    (sym (ap without_pac (part_is t holder realm) ∙ pac_is_zeroed (bare_part t) (pac (signed_pac t holder realm)) (omega (arith, signed_pac_short t holder realm h))))

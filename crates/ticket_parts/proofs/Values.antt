@@ -1,16 +1,15 @@
 -- What a PAC says of a record can be written, and tells of the record again.
-use Rattle.std.proofs.Common.{◌≡◌, ℕ, ◌+◌, ◌-◌, ◌*◌, ◌<◌, ◌≤◌, ◌^◌, true, List, [], ◌∷◌, ◌++◌, get_or, length, take, Option, Some, None, refl, sym, ap, ◌∙◌, arith}
-use Rattle.std.specs.Prelude.{All, IfSome, option_map}
+use Rattle.std.proofs.Common.{◌≡◌, ℕ, ◌+◌, ◌-◌, ◌<◌, ◌≤◌, ◌^◌, List, [], ◌∷◌, ◌++◌, get_or, length, take, Option, Some, None, refl, sym, ap, ◌∙◌, arith}
+use Rattle.std.specs.Prelude.{IfSome, option_map}
 use Rattle.std.proofs.lemmas.List.{length-take-le, take_all, take_more}
 use Rattle.std.proofs.lemmas.List.Elements.{All-get_or, All-take}
-use Rattle.krb_names.specs.SidValue.{SidValue, followed_by}
-use Rattle.pac_buffers.specs.declared.delegation_info.DelegationInfo.{DelegationInfo}
+use Rattle.krb_names.specs.SidValue.{domain_of, followed_by, number_of, SidValue}
 use Rattle.pac_laws.specs.Writable.{IsWritableClient, IsWritableDelegation}
-use Rattle.pac_logon.specs.Logon.{IsDomainSid, IsWritable, subject_sid}
-use Rattle.ticket_records.specs.declared.subject.Delegation.{Delegation}
-use Rattle.ticket_records.specs.declared.subject.Subject.{Subject}
-use Rattle.ticket_records.specs.declared.ticket_rec.TicketRec.{TicketRec}
-use Rattle.ticket_parts.specs.Names.{domain_of, filetime, number_of}
+use Rattle.pac_logon.specs.Logon.{IsDomainSid, IsWritable}
+use Rattle.kdc_records.specs.declared.subject.Delegation.{Delegation}
+use Rattle.kdc_records.specs.declared.subject.Subject.{Subject}
+use Rattle.kdc_records.specs.declared.ticket_rec.TicketRec.{TicketRec}
+use Rattle.ticket_parts.specs.Names.{filetime}
 use Rattle.ticket_parts.specs.Parts.{client_of, delegation_of, logon_of}
 use Rattle.ticket_parts.specs.Records.{delegation_from, subject_of}
 use Rattle.ticket_parts.specs.Sound.{IsSound, IsUserSid}

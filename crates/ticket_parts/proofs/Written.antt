@@ -1,18 +1,17 @@
 -- The part of a record can be written.
-use Rattle.std.proofs.Common.{◌≡◌, ℕ, ◌+◌, ◌<◌, ◌≤◌, ◌^◌, pos, List, [], ◌∷◌, length, Option, Some, None, refl, ap, length-append, arith}
+use Rattle.std.proofs.Common.{ℕ, ◌<◌, ◌^◌, pos, List, [], ◌∷◌, length, Option, Some, None, ap, length-append, arith}
 use Rattle.std.specs.Prelude.{IfSome, option_map}
 use Rattle.std.proofs.lemmas.List.Concat.{flat_map-cons}
 use Rattle.der_forms.specs.Lists.{sequence_of}
 use Rattle.krb_names.specs.declared.key.Key.{Key}
 use Rattle.krb_tickets.specs.declared.auth_item.AuthItem.{AuthItem}
-use Rattle.krb_tickets.specs.declared.enc_ticket_part.EncTicketPart.{EncTicketPart}
 use Rattle.krb_tickets.specs.AuthItem.{auth_item}
 use Rattle.krb_tickets.specs.EncTicketPart.{enc_ticket_part}
 use Rattle.krb_tickets.proofs.PacSizes.{content_shorter}
 use Rattle.ndr_core.specs.Laws.{IsBytes}
 use Rattle.ndr_core.specs.Object.{packed_spelling, spelling}
 use Rattle.pac_buffers.specs.declared.delegation_info.DelegationInfo.{DelegationInfo}
-use Rattle.pac_buffers.specs.Buffers.{Buffer, pac, IsSound as IsSoundPac}
+use Rattle.pac_buffers.specs.Buffers.{pac, IsSound as IsSoundPac}
 use Rattle.pac_buffers.specs.Client.{client}
 use Rattle.pac_buffers.specs.Delegation.{delegation}
 use Rattle.pac_buffers.proofs.Built.{built_sound}
@@ -27,7 +26,7 @@ use Rattle.ticket_laws.specs.OnlyPac.{pac_element}
 use Rattle.ticket_laws.specs.Writable.{IsWritablePart}
 use Rattle.ticket_laws.proofs.LonePacs.{pac_is_short, pac_is_writable}
 use Rattle.ticket_laws.proofs.Parts.{part_fits, part_is_short}
-use Rattle.ticket_records.specs.declared.ticket_rec.TicketRec.{TicketRec}
+use Rattle.kdc_records.specs.declared.ticket_rec.TicketRec.{TicketRec}
 use Rattle.ticket_parts.specs.Parts.{client_of, delegation_of, is_service, logon_of, part, part_with, signed_pac, signed_part, unsigned_pac}
 use Rattle.ticket_parts.specs.Sound.{IsSound}
 use Rattle.ticket_parts.proofs.Bytes.{built_of_bytes, pac_of_bytes, signed_of_bytes}
@@ -65,7 +64,7 @@ signed_pac_short t holder realm h =
     let few = pac_short (logon_of t) (client_of t) (option_map delegation_of t.delegation) (is_service t.holder) (pos (sum_type holder.etype)) (pos (sum_type realm.etype)) (logon_writable t h) (client_writable t h) (delegation_writable t h) in
     omega (arith, size, few)
 
-pub signed_pac_few : (t : TicketRec) (holder realm : Key) → IsSound t → length (pac (signed_pac t holder realm)) < 2 ^ 26
+pub signed_pac_few : (t : TicketRec) (holder realm : Key) → IsSound t → length (pac (signed_pac t holder realm)) < 2 ^ 31
 signed_pac_few t holder realm h = omega (arith, signed_pac_short t holder realm h)
 
 signed_pac_bytes : (t : TicketRec) (holder realm : Key) → IsSound t → IsBytes (pac (signed_pac t holder realm))
@@ -102,19 +101,15 @@ with_is_short t bytes h are few =
     omega (arith, all, items)
 
 pub part_writable : (t : TicketRec) (holder realm : Key) → IsSound t → IsWritablePart (part t holder realm)
+unfolding part
 part_writable t holder realm h = with_is_writable t (pac (signed_pac t holder realm)) h (signed_pac_bytes t holder realm h)
 
 pub part_written : (t : TicketRec) (holder realm : Key) → IsSound t → enc_ticket_part.Fits (part t holder realm)
 part_written t holder realm h = part_fits (part t holder realm) (part_writable t holder realm h)
 
 pub part_short : (t : TicketRec) (holder realm : Key) → IsSound t → length (enc_ticket_part.spelling (part t holder realm)) < 2 ^ 24
+unfolding part
 part_short t holder realm h = with_is_short t (pac (signed_pac t holder realm)) h (signed_pac_bytes t holder realm h) (signed_pac_short t holder realm h)
-
-pub part_few : (t : TicketRec) (holder realm : Key) → IsSound t → length (enc_ticket_part.spelling (part t holder realm)) < 2 ^ 27
-part_few t holder realm h = less _ (part_short t holder realm h)
-  where
-    less : (n : ℕ) → n < 2 ^ 24 → n < 2 ^ 27
-    less n few = omega arith
 
 -- the same with one zero byte for its PAC
 
@@ -131,7 +126,7 @@ pub zeroed_few : (t : TicketRec) → IsSound t → length (enc_ticket_part.spell
 zeroed_few t h = less _ (with_is_short t (0 ∷ []) h zero_byte (omega arith))
 
 -- the authorization data within the one item
-pub element_short : (bytes : List ℕ) → length bytes < 2 ^ 26 → length ((sequence_of auth_item).spelling (pac_element bytes ∷ [])) < 2 ^ 32
+pub element_short : (bytes : List ℕ) → length bytes < 2 ^ 31 → length ((sequence_of auth_item).spelling (pac_element bytes ∷ [])) < 2 ^ 32
 element_short bytes few =
     let item : AuthItem = record { kind = pos 1; content = (sequence_of auth_item).spelling (pac_element bytes ∷ []) } in
     omega (arith, content_shorter item, pac_is_short bytes, ap length (flat_map-cons auth_item.spelling item []), length-append (auth_item.spelling item) [])

@@ -14,11 +14,12 @@ use Rattle.pac_logon.specs.Logon.{logon}
 use Rattle.pac_sign.specs.Signed.{signed}
 use Rattle.pac_sign.specs.Sums.{sum_type}
 use Rattle.ticket_laws.specs.OnlyPac.{only_pac}
-use Rattle.ticket_records.specs.declared.holder.Holder.{Holder}
-use Rattle.ticket_records.specs.declared.holder.Holder.TheVariants.{Krbtgt, Trust, Account}
-use Rattle.ticket_records.specs.declared.subject.Delegation.{Delegation}
-use Rattle.ticket_records.specs.declared.ticket_rec.TicketRec.{TicketRec}
-use Rattle.ticket_parts.specs.Names.{client_name, domain_of, filetime, number_of}
+use Rattle.kdc_records.specs.declared.holder.Holder.{Holder}
+use Rattle.kdc_records.specs.declared.holder.Holder.TheVariants.{Krbtgt, Trust, Account}
+use Rattle.kdc_records.specs.declared.subject.Delegation.{Delegation}
+use Rattle.kdc_records.specs.declared.ticket_rec.TicketRec.{TicketRec}
+use Rattle.krb_names.specs.SidValue.{domain_of, number_of}
+use Rattle.ticket_parts.specs.Names.{client_name, filetime}
 
 -- a service ticket
 abbrev pub is_service : Holder → Bool
@@ -78,5 +79,5 @@ unfoldable pub signed_pac : TicketRec → Key → Key → List Buffer
 signed_pac t holder realm = signed holder realm (signed_part t) (unsigned_pac t holder realm)
 
 -- the part of a record, under the holder's key and the key of the issuing realm's ticket-granting service
-abbrev pub part : TicketRec → Key → Key → EncTicketPart
+unfoldable pub part : TicketRec → Key → Key → EncTicketPart
 part t holder realm = part_with (pac (signed_pac t holder realm)) t

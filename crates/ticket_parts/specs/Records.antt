@@ -14,12 +14,12 @@ use Rattle.pac_buffers.specs.Delegation.{delegation}
 use Rattle.pac_buffers.specs.Signature.{front_of, signature}
 use Rattle.pac_logon.specs.declared.logon_info.LogonInfo.{LogonInfo}
 use Rattle.pac_logon.specs.Logon.{logon, subject_sid}
-use Rattle.ticket_records.specs.declared.holder.Holder.{Holder}
-use Rattle.ticket_records.specs.declared.subject.Delegation.{Delegation}
-use Rattle.ticket_records.specs.declared.subject.Subject.{Subject}
-use Rattle.ticket_records.specs.declared.ticket_rec.TicketRec.{TicketRec}
+use Rattle.kdc_records.specs.declared.holder.Holder.{Holder}
+use Rattle.kdc_records.specs.declared.subject.Delegation.{Delegation}
+use Rattle.kdc_records.specs.declared.subject.Subject.{Subject}
+use Rattle.kdc_records.specs.declared.ticket_rec.TicketRec.{TicketRec}
 use Rattle.ticket_parts.specs.declared.pac_values.PacValue.{PacValue}
-use Rattle.ticket_parts.specs.declared.reading.Certified.{Certified}
+use Rattle.ticket_parts.specs.declared.reading.ReadRecord.{ReadRecord}
 use Rattle.ticket_parts.specs.Names.{client_name, filetime}
 
 -- ---- what a PAC says
@@ -107,10 +107,14 @@ abbrev pub client_agrees : EncTicketPart → PacValue → Bool
 client_agrees part value =
     value.client.time == filetime part.auth && same_text value.client.name (client_name value.logon.subject.name value.logon.subject.domain part.client)
 
--- the record of a part that this holder's key opened, and whether its client information agrees; nothing where its PAC is not
--- there or does not read
-abbrev pub record_of : Holder → EncTicketPart → Option Certified
-record_of holder part = do
-  bytes ← pac_of part
-  value ← pac_reading bytes
-  Some (record { rec = record_with holder part value; agrees = client_agrees part value })
+-- the record of a part whose PAC says this, and whether its client information agrees
+abbrev pub read_with : Holder → EncTicketPart → PacValue → ReadRecord
+read_with holder part value = record { rec = record_with holder part value; agrees = client_agrees part value }
+
+-- the record of a part with these bytes for its PAC
+abbrev pub record_by : Holder → EncTicketPart → List ℕ → Option ReadRecord
+record_by holder part bytes = option_map (read_with holder part) (pac_reading bytes)
+
+-- the record of a part that this holder's key opened; nothing where its PAC is not there or does not read
+unfoldable pub record_of : Holder → EncTicketPart → Option ReadRecord
+record_of holder part = pac_of part >>= record_by holder part

@@ -5,8 +5,8 @@ use Rattle.krb_names.specs.Pieces.{is_name}
 use Rattle.krb_names.specs.SidValue.{SidValue}
 use Rattle.pac_laws.specs.Writable.{IsWritableDelegation}
 use Rattle.ticket_laws.specs.Writable.{IsWritablePart}
-use Rattle.ticket_records.specs.declared.subject.Subject.{Subject}
-use Rattle.ticket_records.specs.declared.ticket_rec.TicketRec.{TicketRec}
+use Rattle.kdc_records.specs.declared.subject.Subject.{Subject}
+use Rattle.kdc_records.specs.declared.ticket_rec.TicketRec.{TicketRec}
 use Rattle.ticket_parts.specs.Parts.{bare_part, delegation_of}
 
 -- a user's SID: the domain's, which has a number, and the user's number (MS-DTYP 2.4.2)

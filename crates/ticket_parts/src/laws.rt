@@ -8,21 +8,25 @@ ghost use Rattle.krb_tickets.specs.Pac.{pac_of, without_pac};
 ghost use Rattle.pac_buffers.specs.Buffers.{pac};
 ghost use Rattle.pac_sign.specs.Verified.{verified};
 ghost use Rattle.ticket_laws.specs.Writable.{IsWritablePart};
-ghost use Rattle.ticket_records.specs.declared.holder.Holder.{Holder};
-ghost use Rattle.ticket_records.specs.declared.ticket_rec.TicketRec.{TicketRec};
-ghost use Rattle.ticket_parts.specs.declared.reading.Certified.{Certified};
+ghost use Rattle.kdc_records.specs.declared.holder.Holder.{Holder};
+ghost use Rattle.kdc_records.specs.declared.ticket_rec.TicketRec.{TicketRec};
+ghost use Rattle.ticket_parts.specs.declared.reading.ReadRecord.{ReadRecord};
 ghost use Rattle.ticket_parts.specs.Parts.{is_service, part, signed_pac, signed_part};
 ghost use Rattle.ticket_parts.specs.Records.{record_of};
 ghost use Rattle.ticket_parts.specs.Sound.{IsSound};
 
-/// Of a sound record's part the same record is told, whatever the two keys, and its client information agrees.
+/// Of a sound record's part the same record is told but for its holder, which is the one that is named: whoever that is, and
+/// whatever the two keys. The client information agrees.
 pub fn record_law()
-    ensures value { (t : TicketRec) (holder realm : Key) → IsSound t → record_of t.holder (part t holder realm) ≡ Some (record { rec = t; agrees = true }) }
+    ensures value { (t : TicketRec) (held : Holder) (holder realm : Key) → IsSound t → record_of held (part t holder realm) ≡ Some (record { rec = record t { holder = held }; agrees = true }) }
 {}
 
-/// A record that is told of a part that can be written is sound, so that a part can be made of it.
+/// A record that is told of a part that can be written is sound, so that a part can be made of it; soundness says nothing of
+/// the holder, which may be any. The holder is the one that is named, and another one's record differs in that alone.
 pub fn read_law()
-    ensures found { (holder : Holder) (p : EncTicketPart) (c : Certified) → IsWritablePart p → record_of holder p ≡ Some c → IsSound c.rec }
+    ensures sound { (held : Holder) (p : EncTicketPart) (read : ReadRecord) → IsWritablePart p → record_of held p ≡ Some read → IsSound read.rec }
+    ensures holder { (held : Holder) (p : EncTicketPart) (read : ReadRecord) → record_of held p ≡ Some read → read.rec.holder ≡ held }
+    ensures others { (held other : Holder) (p : EncTicketPart) (read : ReadRecord) → record_of held p ≡ Some read → record_of other p ≡ Some (record read { rec = record read.rec { holder = other } }) }
 {}
 
 /// The signatures of a sound record's part are right, whatever the two keys.

@@ -10,7 +10,9 @@ mod reading;
 
 pub use laws::{part_law, read_law, record_law, signatures_law};
 pub use making::make_part;
-pub use reading::{Certified, read_record};
+pub use pac_reading::read_pac;
+pub use pac_values::PacValue;
+pub use reading::{ReadRecord, read_record};
 
 #[cfg(test)]
 mod tests;

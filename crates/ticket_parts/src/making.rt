@@ -14,13 +14,13 @@ ghost use Rattle.ticket_parts.specs.Sound.{IsSound};
 
 use crate::pac_values::{client_of, delegation_of, logon_of};
 use der_forms::write;
+use kdc_records::{Delegation, Holder, TicketRec};
 use krb_names::{Bytes, Etype, Items, Key, TryClone};
 use krb_tickets::{AuthItem, AuthItems, EncTicketPart, write_part};
 use pac_buffers::Pac;
 use pac_logon::write_logon;
 use pac_sign::sign;
 use std::alloc::{AllocError, Global};
-use ticket_records::{Delegation, Holder, TicketRec};
 
 /// AD-IF-RELEVANT (RFC 4120, section 5.2.6.1).
 const AD_IF_RELEVANT: i32 = 1;
@@ -120,7 +120,7 @@ fn lone_item(alloc: Global, kind: i32, content: Bytes) -> Result<AuthItems, Allo
 
 /// Authorization data that hold a PAC and nothing else.
 fn only_pac(alloc: Global, pac: &[u8]) -> Result<AuthItems, AllocError>
-    requires { length pac.now < 2 ^ 26 }
+    requires { length pac.now < 2 ^ 31 }
     ensures { IfOk result (λ items. items ≡ only_pac pac.now) }
 {
     let elements = lone_item(alloc, AD_WIN2K_PAC, Bytes::copy(alloc, pac)?)?;
@@ -129,7 +129,7 @@ fn only_pac(alloc: Global, pac: &[u8]) -> Result<AuthItems, AllocError>
 
 /// The part of a record with these bytes for its PAC.
 fn part_with(alloc: Global, pac: &[u8], rec: &TicketRec) -> Result<EncTicketPart, AllocError>
-    requires { length pac.now < 2 ^ 26 }
+    requires { length pac.now < 2 ^ 31 }
     ensures { IfOk result (λ made. made ≡ part_with pac.now rec.now) }
 {
     Ok(EncTicketPart {
@@ -168,7 +168,7 @@ pub fn make_part(
     ensures ok { IfOk result (λ made. made ≡ part rec.now holder_key.now realm_key.now) }
     // It can be written.
     ensures fits { IfOk result (λ made. enc_ticket_part.Fits made) }
-    ensures short { IfOk result (λ made. length (enc_ticket_part.spelling made) < 2 ^ 27) }
+    ensures short { IfOk result (λ made. length (enc_ticket_part.spelling made) < 2 ^ 24) }
 {
     let mut pac = unsigned_pac(alloc, rec, holder_key, realm_key)?;
     let signed = signed_part(alloc, rec)?;

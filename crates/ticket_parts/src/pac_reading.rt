@@ -1,9 +1,9 @@
 //! Reading what a PAC says (MS-PAC, sections 2.3 to 2.9).
 
-ghost use Rattle.std.specs.Prelude.{◌≡◌, ◌<◌, ◌≤◌, ◌^◌, true, IfOk, IfSome, Result, length};
+ghost use Rattle.std.specs.Prelude.{◌≡◌, ◌<◌, ◌≤◌, ◌^◌, true, IfOk, IfSome, None, Result, length};
 ghost use Rattle.std.specs.Option.{option_copied, ForSome};
 ghost use Rattle.kdc_prelude.specs.Answers.{Answers};
-ghost use Rattle.pac_buffers.specs.Container.{buffer_of};
+ghost use Rattle.pac_buffers.specs.Container.{buffer_of, pac_fault};
 ghost use Rattle.ticket_parts.specs.Records.{are_signatures_in, client_in, delegation_reading, has_names, is_signature_in, is_signature_or_absent, logon_in, or_nothing, pac_reading, value_in};
 
 use crate::pac_values::PacValue;
@@ -12,9 +12,6 @@ use ndr_core::LogonFault;
 use pac_buffers::{ClientInfo, DelegationInfo, PacView, SignatureData};
 use pac_logon::{LogonInfo, read_logon};
 use std::alloc::{AllocError, Global};
-
-/// As many bytes are not read as a PAC (own limit).
-const TOO_MANY_BYTES: usize = 0x1_0000_0000;
 
 /// A reading without its fault, where it is not want of memory.
 fn or_nothing<T: Drop>(read: Result<T, LogonFault>) -> Result<Option<T>, AllocError>
@@ -136,22 +133,20 @@ fn has_names(value: &PacValue) -> bool
         && is_name_text(value.logon.subject.domain.as_str())
 }
 
-/// What a PAC says; none where it does not read.
-pub fn read_pac(alloc: Global, bytes: &[u8]) -> Result<Option<PacValue>, AllocError>
-    ensures exact { IfOk result (λ found. found ≡ pac_reading bytes.now) }
+/// What a PAC whose container reads says: its logon information, client information and delegation information. None where one
+/// of them or a signature does not read, the delegation information and the ticket signature where they are there, or a name
+/// of the user is none.
+pub fn read_pac(alloc: Global, pac: &PacView) -> Result<Option<PacValue>, AllocError>
+    requires few { length pac.now < 2 ^ 32 }
+    requires well { pac_fault pac.now ≡ None }
+    ensures exact { IfOk result (λ found. found ≡ pac_reading pac.now) }
     ensures names { IfOk result (λ found. IfSome found (λ value. has_names value ≡ true)) }
     ensures few { IfOk result (λ found. IfSome found (λ value. length value.logon.subject.domain_sid.numbers ≤ 14)) }
 {
-    if bytes.len() >= TOO_MANY_BYTES {
+    if !are_signatures_in(alloc, pac)? {
         return Ok(None);
     }
-    let Ok(pac) = PacView::read(bytes) else {
-        return Ok(None);
-    };
-    if !are_signatures_in(alloc, &pac)? {
-        return Ok(None);
-    }
-    match value_in(alloc, &pac)? {
+    match value_in(alloc, pac)? {
         Some(value) if has_names(&value) => Ok(Some(value)),
         _ => Ok(None),
     }

@@ -1,14 +1,14 @@
 //! What a PAC says of a record: logon information, client information and delegation information.
 
 ghost use Rattle.std.specs.Prelude.{◌≡◌, ◌++◌, ◌∷◌, ◌≤◌, IfOk, length};
-ghost use Rattle.ticket_parts.specs.Names.{client_name, domain_of, filetime, is_user, number_of};
+ghost use Rattle.ticket_parts.specs.Names.{client_name, filetime};
 ghost use Rattle.ticket_parts.specs.Parts.{client_of, delegation_of, logon_of};
 
-use krb_names::{KTime, Principal, Sid, Text, TryClone};
+use kdc_records::{Delegation, TicketRec, is_user};
+use krb_names::{KTime, Principal, Text, TryClone};
 use pac_buffers::{ClientInfo, DelegationInfo};
 use pac_logon::{LogonInfo, Subject4};
 use std::alloc::{AllocError, Global};
-use ticket_records::{Delegation, TicketRec};
 
 /// What a PAC says.
 #[derive(Debug, Drop)]
@@ -23,16 +23,6 @@ pub fn filetime(time: KTime) -> u64
     ensures { result ≡ filetime time }
 {
     116_444_736_000_000_000 + 10_000_000 * time.secs()
-}
-
-/// Whether the client is the user of this name in this realm.
-fn is_user(name: &str, realm: &str, client: &Principal) -> bool
-    ensures { result ≡ is_user name.now realm.now client.now }
-{
-    match client.parts.as_slice() {
-        [part] => part.as_str() == name && client.realm.as_str() == realm,
-        _ => false,
-    }
 }
 
 /// The name in the client information of a user's ticket: the user's; where the client is another, with `@` and the user's
@@ -54,23 +44,13 @@ pub fn client_name(
     Ok(Text::from_string(text))
 }
 
-/// The domain's SID, and the user's number in it.
-fn split_sid(sid: &Sid) -> (Sid, u32)
-    requires { 2 ≤ length sid.now.numbers }
-    ensures { result ≡ (domain_of sid.now, number_of sid.now) }
-{
-    let numbers = sid.numbers();
-    let last = numbers.len() - 1;
-    (Sid::new(sid.authority(), &numbers[..last]), numbers[last])
-}
-
 /// The logon information of a record.
 pub fn logon_of(alloc: Global, rec: &TicketRec) -> Result<LogonInfo, AllocError>
     requires { 2 ≤ length rec.now.subject.sid.numbers }
     ensures { IfOk result (λ info. info ≡ logon_of rec.now) }
 {
     let subject = &rec.subject;
-    let (domain_sid, number) = split_sid(&subject.sid);
+    let (domain_sid, number) = subject.sid.apart();
     Ok(LogonInfo {
         subject: Subject4 {
             name: subject.name.try_clone(alloc)?,

@@ -1,23 +1,25 @@
 //! Reading the record that a part tells of.
 
-ghost use Rattle.std.specs.Prelude.{◌≡◌, ◌<◌, ◌≤◌, ◌^◌, true, IfOk, IfSome, option_map, length};
-ghost use Rattle.ticket_laws.specs.Writable.{IsWritablePart};
+ghost use Rattle.std.specs.Prelude.{◌≡◌, ◌<◌, ◌≤◌, ◌^◌, true, IfOk, IfSome, None, Some, option_map, length};
 ghost use Rattle.krb_names.specs.Pieces.{is_name};
-ghost use Rattle.ticket_parts.specs.Records.{client_agrees, delegation_from, has_names, record_of, record_with, subject_of};
+ghost use Rattle.krb_tickets.specs.Pac.{pac_of};
+ghost use Rattle.pac_buffers.specs.Container.{pac_fault};
+ghost use Rattle.ticket_laws.specs.Writable.{IsWritablePart};
+ghost use Rattle.ticket_parts.specs.Records.{client_agrees, delegation_from, has_names, record_by, record_of, record_with, subject_of};
 ghost use Rattle.ticket_parts.specs.Sound.{IsSound};
 
 use crate::pac_reading::read_pac;
 use crate::pac_values::{PacValue, client_name, filetime};
+use kdc_records::{Delegation, Holder, Subject, TicketRec};
 use krb_names::{NameRefusal, Numbers, Realm, Text, TryClone, parse_realm};
-use krb_tickets::{EncTicketPart, pac_of};
-use pac_buffers::{ClientInfo, DelegationInfo};
+use krb_tickets::EncTicketPart;
+use pac_buffers::{ClientInfo, DelegationInfo, PacView};
 use pac_logon::LogonInfo;
 use std::alloc::{AllocError, Global};
-use ticket_records::{Delegation, Holder, Subject, TicketRec};
 
-/// A record whose signatures are looked at elsewhere.
+/// The record that a part tells of. Nothing in it is certified: the signatures of the PAC are compared elsewhere.
 #[derive(Debug, Drop)]
-pub struct Certified {
+pub struct ReadRecord {
     pub rec: TicketRec,
     /// Whether the client information has the ticket's authtime and the name that it should have.
     pub agrees: bool,
@@ -102,35 +104,38 @@ fn record_with(
     })
 }
 
-fn record_told(
+fn record_by(
     alloc: Global,
     holder: &Holder,
     part: &EncTicketPart,
-) -> Result<Option<Certified>, AllocError>
-    ensures { IfOk result (λ found. found ≡ record_of holder.now part.now) }
+    pac: &PacView,
+) -> Result<Option<ReadRecord>, AllocError>
+    requires few { length pac.now < 2 ^ 32 }
+    requires well { pac_fault pac.now ≡ None }
+    ensures { IfOk result (λ found. found ≡ record_by holder.now part.now pac.now) }
 {
-    let Some(bytes) = pac_of(part) else {
-        return Ok(None);
-    };
-    let Some(value) = read_pac(alloc, bytes)? else {
+    let Some(value) = read_pac(alloc, pac)? else {
         return Ok(None);
     };
     let agrees = client_agrees(alloc, part, &value)?;
     let rec = record_with(alloc, holder, part, value)?;
-    Ok(Some(Certified { rec, agrees }))
+    Ok(Some(ReadRecord { rec, agrees }))
 }
 
-/// The record of a part that this holder's key opened; none where its PAC is not there or does not read: the container,
-/// logon information, client information, the signatures, delegation information where it is there, the user's name and
-/// realm.
+/// The record of a part that this holder's key opened, read of the part's PAC; none where that says nothing (as
+/// [`read_pac`] tells).
 pub fn read_record(
     alloc: Global,
     holder: &Holder,
     part: &EncTicketPart,
-) -> Result<Option<Certified>, AllocError>
+    pac: &PacView,
+) -> Result<Option<ReadRecord>, AllocError>
+    requires found { pac_of part.now ≡ Some pac.now }
+    requires few { length pac.now < 2 ^ 32 }
+    requires well { pac_fault pac.now ≡ None }
     ensures exact { IfOk result (λ found. found ≡ record_of holder.now part.now) }
     // A part can be made of it, where this one can be written.
-    ensures sound { IsWritablePart part.now → IfOk result (λ found. IfSome found (λ c. IsSound c.rec)) }
+    ensures sound { IsWritablePart part.now → IfOk result (λ found. IfSome found (λ read. IsSound read.rec)) }
 {
-    record_told(alloc, holder, part)
+    record_by(alloc, holder, part, pac)
 }

@@ -5,13 +5,14 @@ ghost use Rattle.ticket_parts.specs.Parts.{delegation_of};
 ghost use Rattle.ticket_parts.specs.Sound.{IsSound, IsSoundSubject};
 
 use super::*;
+use kdc_records::{Delegation, Holder, Subject, TicketRec};
 use krb_names::{
     Bytes, Etype, Items, KTime, Key, Numbers, Principal, Realm, Sid, Text, Texts, parse_realm,
 };
-use krb_tickets::{AuthItem, EncTicketPart};
+use krb_tickets::{AuthItem, EncTicketPart, pac_of};
+use pac_buffers::PacView;
 use std::alloc::{AllocError, Global};
 use std::test::Fail;
-use ticket_records::{Delegation, Holder, Subject, TicketRec};
 
 fn holder_key() -> Key {
     Key::new(Etype::Aes256, &[1; 32])
@@ -113,12 +114,21 @@ fn changed(alloc: Global, mut part: EncTicketPart, at: usize) -> Result<EncTicke
 }
 
 /// What is told of a record's part with another byte at this place, where there is such a place.
-fn told(alloc: Global, rec: &TicketRec, at: usize) -> Result<Option<Certified>, AllocError>
+fn told(alloc: Global, rec: &TicketRec, at: usize) -> Result<Option<ReadRecord>, AllocError>
     requires { IsSound rec.now }
 {
     let part = make_part(alloc, rec, &holder_key(), &realm_key())?;
     let part = changed(alloc, part, at)?;
-    read_record(alloc, &rec.holder, &part)
+    let Some(bytes) = pac_of(&part) else {
+        return Ok(None);
+    };
+    if bytes.len() > 0xffff_ffff {
+        return Ok(None);
+    }
+    match PacView::read(bytes) {
+        Ok(pac) => read_record(alloc, &rec.holder, &part, &pac),
+        Err(_) => Ok(None),
+    }
 }
 
 fn account(alloc: Global) -> Result<Holder, AllocError> {
@@ -137,14 +147,14 @@ fn krbtgt(alloc: Global) -> Result<Holder, AllocError> {
 }
 
 /// What is told of the part of a service ticket that was got by delegation.
-fn told_of_account(alloc: Global) -> Result<Option<Certified>, Fail> {
+fn told_of_account(alloc: Global) -> Result<Option<ReadRecord>, Fail> {
     let delegation = delegation(alloc)?;
     let rec = record(alloc, account(alloc)?, Some(delegation))?;
     Ok(told(alloc, &rec, usize::MAX)?)
 }
 
 /// What is told of the part of a ticket-granting ticket with another byte at this place of its one item.
-fn told_of_krbtgt(alloc: Global, at: usize) -> Result<Option<Certified>, Fail> {
+fn told_of_krbtgt(alloc: Global, at: usize) -> Result<Option<ReadRecord>, Fail> {
     let rec = record(alloc, krbtgt(alloc)?, None)?;
     Ok(told(alloc, &rec, at)?)
 }

@@ -1,4 +1,4 @@
-use Rattle.std.proofs.Common.{arith}
+use Rattle.std.proofs.Common.{◌∙◌, arith}
 use Rattle.kb_base.proofs.Known.{appends_more}
 use Rattle.kb_base.proofs.whole.write_whole.Goals as goal
 
@@ -7,5 +7,5 @@ loop-at-preserved g c =
     record {
       within = omega (arith, c.in_ok-at.ensures.bound);
       written = appends_more _ _ _ c.args.piece.now c.loop-at.at c.in_ok-at.field-0 c.loop-at.invariant.written c.in_ok-at.ensures.bytes;
-      later = omega (arith, c.in_ok-at.ensures.cause.later);
+      kept = c.in_ok-at.ensures.cause.failed ∙ c.loop-at.invariant.kept;
     }

@@ -49,7 +49,7 @@ returns-then-is_same_sum-clause-found c =
     let hb : AreBytes b = c.sum_at-shown.ensures.exact in
     let et = decrypted key c.args.usage b text c.derive-encryption_key.result c.schedule_of-schedule.result c.derive-encryption_key.ensures.value c.schedule_of-schedule.ensures c.decrypt_text.ensures in
     let sum = summed key c.args.usage n text rest c.short_hmac-sum.result c.derive.result c.derive.ensures.value lt c.short_hmac-sum.ensures in
-    let same : c.sum_at-shown.result ≡ c.short_hmac-sum.result = c.if-is_same_sum.ensures.0 refl in
+    let same : c.sum_at-shown.result ≡ c.short_hmac-sum.result = c.if-is_same_sum.ensures.found.0 refl in
     subst (λ m. Opens key c.args.usage b m) (sym (message_at text rest n lt (omega arith)))
     (opens_found key c.args.usage b text hk hb long (subst AreBytes (sym et) (bytes_decrypted key c.args.usage b hk hb long)) lt et (sym c.sum_at-shown.ensures.value ∙ same ∙ sum))
 
@@ -65,7 +65,7 @@ returns-clause-cause c = λ message o.
     let sum = summed key c.args.usage n text (drop n b) c.short_hmac-sum.result c.derive.result c.derive.ensures.value lt c.short_hmac-sum.ensures in
     let same : c.sum_at-shown.result ≡ c.short_hmac-sum.result =
     c.sum_at-shown.ensures.value ∙ opens_sum key c.args.usage b message hk o ∙ ap (short_hmac (integrity_key key c.args.usage)) (sym et) ∙ sym sum in
-    let different = c.if-is_same_sum.ensures.1 same in
+    let different = c.if-is_same_sum.ensures.found.1 same in
     absurd (false≢true different)
 
 pub returns-clause-unchanged : goal.returns-clause-unchanged
@@ -98,7 +98,7 @@ returns-then-is_same_sum-clause-exact c =
     let lt : length text ≡ n = omega (arith, length-take-le n b (omega arith)) in
     let et = decrypted key c.args.usage b text c.derive-encryption_key.result c.schedule_of-schedule.result c.derive-encryption_key.ensures.value c.schedule_of-schedule.ensures c.decrypt_text.ensures in
     let sum = summed key c.args.usage n text (drop n b) c.short_hmac-sum.result c.derive.result c.derive.ensures.value lt c.short_hmac-sum.ensures in
-    let same : c.sum_at-shown.result ≡ c.short_hmac-sum.result = c.if-is_same_sum.ensures.0 refl in
+    let same : c.sum_at-shown.result ≡ c.short_hmac-sum.result = c.if-is_same_sum.ensures.found.0 refl in
     (λ i. Some (message_at text (drop n b) n lt (omega arith) i)) ∙ sym (opened_some key c.args.usage b text long et (sym c.sum_at-shown.ensures.value ∙ same ∙ sum))
 
 pub returns-clause-exact : goal.returns-clause-exact
@@ -111,4 +111,4 @@ returns-clause-exact c =
     let lt : length text ≡ n = omega (arith, length-take-le n b (omega arith)) in
     let et = decrypted key c.args.usage b text c.derive-encryption_key.result c.schedule_of-schedule.result c.derive-encryption_key.ensures.value c.schedule_of-schedule.ensures c.decrypt_text.ensures in
     let sum = summed key c.args.usage n text (drop n b) c.short_hmac-sum.result c.derive.result c.derive.ensures.value lt c.short_hmac-sum.ensures in
-    sym (opened_none key c.args.usage b text long et (λ e. false≢true (c.if-is_same_sum.ensures.1 (c.sum_at-shown.ensures.value ∙ e ∙ sym sum))))
+    sym (opened_none key c.args.usage b text long et (λ e. false≢true (c.if-is_same_sum.ensures.found.1 (c.sum_at-shown.ensures.value ∙ e ∙ sym sum))))

@@ -1,8 +1,8 @@
-use Rattle.std.proofs.Common.{◌<◌, [], ◌∷◌, ◌++◌, List, ℕ, length, sym, ap, subst, ◌∙◌, arith}
+use Rattle.std.proofs.Common.{[], ◌∷◌, ◌++◌, List, ℕ, length, sym, ap, subst, ◌∙◌, arith}
 use Rattle.std.proofs.lemmas.Bool.{eqb-true, eqb-false}
 use Rattle.std.proofs.lemmas.Result.{err_from_is_err_and}
 use Rattle.der_forms.specs.declared.read_fault.ReadFault.TheVariants as faults
-use Rattle.der_forms.specs.Lists.{items_at, items}
+use Rattle.der_forms.specs.Lists.{items}
 use Rattle.der_forms.proofs.Loops.{goes_on, ends, is_empty, is_done, is_over}
 use Rattle.krb_tickets.specs.declared.auth_item.AuthItem.{AuthItem}
 use Rattle.krb_tickets.specs.AuthItem.{auth_item}

@@ -1,7 +1,7 @@
 use Rattle.std.proofs.Common.{ℕ, ◌-◌, List, ◌∷◌, ◌++◌, length, take, drop, sym, ap, ◌∙◌, append_assoc}
 use Rattle.std.specs.List.{flat_map}
 use Rattle.std.proofs.lemmas.List.{take_all}
-use Rattle.krb_tickets.proofs.Joined.{joined_names}
+use Rattle.krb_names.proofs.Joined.{joined_names}
 use Rattle.krb_tickets.proofs.transited.put_joined.Goals as goal
 
 pub returns : goal.returns

@@ -1,7 +1,7 @@
 use Rattle.std.proofs.Common.{List, ℕ, Result, sym, subst}
 use Rattle.kdc_prelude.specs.Answers.{Answers}
 use Rattle.der_core.specs.Codec.{whole}
-use Rattle.dir_core.specs.declared.rule.Rule.{Rule}
+use Rattle.kdc_records.specs.declared.rule.Rule.{Rule}
 use Rattle.krb_tickets.specs.Ticket.{ticket}
 use Rattle.ticket_explain.specs.declared.fault.ExplainFault.TheVariants.{NoMemory}
 use Rattle.ticket_explain.specs.Explained.{denied}
@@ -10,7 +10,7 @@ use Rattle.ticket_explain.proofs.Told.{reading_told}
 use Rattle.ticket_explain.proofs.explanation.explain_bytes.Goals as goal
 
 pub explain_ticket-requires : goal.explain_ticket-requires
-explain_ticket-requires c = few_sealed c.in-Ok.ticket c.args.bytes.now c.requires c.in-Ok.ensures.value.1
+explain_ticket-requires c = few_sealed c.in-Ok.ticket c.args.bytes.now c.requires c.in-Ok.ensures.short
 
 pub returns-in-Ok : goal.returns-in-Ok
 returns-in-Ok c =

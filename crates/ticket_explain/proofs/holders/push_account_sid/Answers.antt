@@ -1,6 +1,6 @@
 use Rattle.std.proofs.Common.{◌≡◌, List, ℕ, [], ◌∷◌, ◌++◌, OnOk, string_bytes, decimal, ap, sym, subst, ◌∙◌, append_assoc}
 use Rattle.krb_names.specs.SidValue.{followed_by}
-use Rattle.ticket_explain.specs.Words.{sid_text}
+use Rattle.krb_names.specs.SidValue.{sid_text}
 use Rattle.ticket_explain.proofs.Sids.{sid_followed}
 use Rattle.ticket_explain.proofs.holders.push_account_sid.Goals as goal
 

@@ -1,4 +1,4 @@
-use Rattle.std.proofs.Common.{◌≡◌, ℕ, ◌<◌, ◌^◌, pos, List, [], ◌∷◌, length, sym, ap, subst, ◌∙◌}
+use Rattle.std.proofs.Common.{◌≡◌, ℕ, ◌<◌, ◌^◌, List, [], ◌∷◌, length, sym, ap, subst, ◌∙◌}
 use Rattle.der_forms.specs.Lists.{sequence_of}
 use Rattle.krb_tickets.specs.declared.auth_item.AuthItem.{AuthItem}
 use Rattle.krb_tickets.specs.AuthItem.{auth_item}

@@ -1,4 +1,4 @@
-use Rattle.std.proofs.Common.{◌≡◌, ℕ, zero, suc, ◌-◌, ◌<◌, ◌≤◌, pos, true, List, [], ◌∷◌, length, replicate, Some, refl, sym, subst, arith, lit<}
+use Rattle.std.proofs.Common.{◌≡◌, ℕ, zero, suc, pos, List, [], ◌∷◌, replicate, Some, refl, sym, subst, arith, lit<}
 use Rattle.std.specs.Str.{chars, is_utf8}
 use Rattle.krb_names.specs.declared.etype.Etype.TheVariants.{Aes256}
 use Rattle.krb_names.specs.declared.key.Key.{Key}

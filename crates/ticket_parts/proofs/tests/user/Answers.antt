@@ -1,10 +1,9 @@
-use Rattle.std.proofs.Common.{◌≡◌, ℕ, ◌<◌, ◌^◌, true, List, [], ◌∷◌, length, refl, sym, ap, subst, arith, lit<}
+use Rattle.std.proofs.Common.{◌≡◌, ℕ, ◌<◌, ◌^◌, List, [], ◌∷◌, length, refl, sym, ap, subst, arith, lit<}
 use Rattle.std.specs.Prelude.{All}
-use Rattle.std.specs.Str.{IsUtf8, chars, is_utf8}
+use Rattle.std.specs.Str.{chars, is_utf8}
 use Rattle.std.proofs.lemmas.List.Elements.{All-cons}
 use Rattle.std.proofs.lemmas.Str.{IsUtf8-from_is_utf8}
 use Rattle.krb_names.specs.SidValue.{SidValue}
-use Rattle.ticket_records.specs.declared.subject.Subject.{Subject}
 use Rattle.ticket_parts.specs.Sound.{IsNameText, IsSoundSubject, IsUserSid}
 use Rattle.ticket_parts.proofs.tests.user.Goals as goal
 

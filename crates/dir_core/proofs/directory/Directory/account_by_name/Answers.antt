@@ -10,3 +10,6 @@ returns-clause-found c = rw (c.realm.ensures.found, ← c.as_slice.ensures) (sea
 pub returns-clause-only : goal.returns-clause-only
 returns-clause-only c =
     rw c.realm.ensures.found (at_most_one same_text nat_list_eq_equiv (λ account. account.name) c.args.name.now c.realm.result.now.accounts c.realm.ensures.names)
+
+pub returns-clause-within : goal.returns-clause-within
+returns-clause-within c = rw (c.realm.ensures.found, ← c.as_slice.ensures) (search rules)

@@ -2,7 +2,10 @@ use Rattle.std.proofs.Common.{◌≡◌, ◌<◌, sym, ◌∙◌, ap, get_or, le
 use Rattle.std.specs.Prelude.{Some, slice_get}
 use Rattle.std.proofs.lemmas.Option.{slice_get_read}
 use Rattle.dir_records.proofs.Apart.{apart_names}
+use Rattle.dir_records.specs.IsDirectory.{IsRealm}
 use Rattle.dir_records.proofs.Bounds.{IsBounded, well_bounded}
+use Rattle.dir_records.proofs.Consistent.{is_consistent}
+use Rattle.dir_records.proofs.Tables.{each}
 use Rattle.dir_core.proofs.directory.Directory.realm.Goals as goal
 
 within : (c : goal.After-index-as_slice-i) → c.args.i < length c.self.inside.contents.realms
@@ -25,8 +28,11 @@ returns-clause-accounts c = (bounded c).accounts
 pub returns-clause-trusts : goal.returns-clause-trusts
 returns-clause-trusts c = (bounded c).trusts
 
+is_there : (c : goal.After-index-as_slice-i) → slice_get c.self.inside.contents.realms c.args.i ≡ Some c.index-as_slice-i.result
+is_there c = slice_get_read c.self.inside.contents.realms (length c.self.inside.contents.realms) c.args.i c.index-as_slice-i.result refl (within c) (is_read c)
+
+pub returns-clause-forms : goal.returns-clause-forms
+returns-clause-forms c = each IsRealm c.self.inside.contents.realms c.args.i c.index-as_slice-i.result (is_consistent c.self.inside.contents c.self.invariant).forms.realms (is_there c)
+
 pub returns-clause-names : goal.returns-clause-names
-returns-clause-names c =
-    let realms = c.self.inside.contents.realms in
-    let found : slice_get realms c.args.i ≡ Some c.index-as_slice-i.result = slice_get_read realms (length realms) c.args.i c.index-as_slice-i.result refl (within c) (is_read c) in
-    apart_names c.self.inside.contents c.self.invariant c.args.i c.index-as_slice-i.result found
+returns-clause-names c = apart_names c.self.inside.contents c.self.invariant c.args.i c.index-as_slice-i.result (is_there c)

@@ -1,6 +1,0 @@
-use Rattle.std.proofs.Common.{◌≡◌, [], take, drop}
-use Rattle.pac_buffers.specs.Container.{overlap}
-use Rattle.pac_buffers.proofs.list.two_share_byte.Given as goal
-
-abbrev pub invariant-loop-i : goal.invariant-loop-i
-invariant-loop-i l = overlap (take l.i l.list) (drop l.i l.list) ≡ overlap [] l.list
