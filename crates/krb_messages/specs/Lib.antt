@@ -1,0 +1,16 @@
+pub mod PaData
+pub mod Checksum
+pub mod LastReq
+pub mod EtypeInfo2Entry
+pub mod PaEncTsEnc
+pub mod KdcReqBody
+pub mod KdcReq
+pub mod KdcRep
+pub mod EncKdcRep
+pub mod KrbError
+pub mod ApReq
+pub mod Authenticator
+pub mod ApRep
+pub mod EncApRep
+pub mod Laws
+pub mod KdcReqLaws
