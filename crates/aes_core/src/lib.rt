@@ -7,8 +7,6 @@ mod key_expansion;
 mod key_schedule;
 mod law;
 mod tables;
-#[cfg(test)]
-mod tests;
 
 pub use block::{decrypt_block, encrypt_block};
 pub use key_schedule::KeySchedule;

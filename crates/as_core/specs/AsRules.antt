@@ -1,5 +1,5 @@
 -- The rules of an AS-REQ (RFC 4120, section 3.1.3), and what it is granted.
-use Rattle.std.specs.Prelude.{◌≡◌, ℕ, ℤ, pos, negsuc, ◌+◌, ◌==◌, ◌&&◌, ◌||◌, Bool, true, false, not, nat_lt, List, [], ◌∷◌, ◌++◌, Option, None, Some, is_some, option_map, slice_get, unwrap_or, if◌then◌else◌}
+use Rattle.std.specs.Prelude.{◌≡◌, ℕ, ℤ, pos, negsuc, ◌+◌, ◌-◌, ◌==◌, ◌&&◌, ◌||◌, Bool, true, false, not, nat_le, nat_lt, List, [], ◌∷◌, ◌++◌, Option, None, Some, is_some, option_map, slice_get, unwrap_or, if◌then◌else◌}
 use Rattle.std.specs.List.{list_any}
 use Rattle.kdc_prelude.specs.Options.{holds_of}
 use Rattle.kdc_prelude.specs.Steps.{◌>>=◌}
@@ -8,7 +8,8 @@ use Rattle.krb_names.specs.declared.key.Key.{Key}
 use Rattle.krb_names.specs.declared.moment.Moment.{Moment}
 use Rattle.krb_names.specs.declared.principal.Principal.{Principal}
 use Rattle.krb_names.specs.Etypes.{etype_number}
-use Rattle.krb_names.specs.Moments.{are_within_skew}
+use Rattle.krb_names.specs.Moments.{in_micros}
+use Rattle.krb_tickets.specs.Pac.{is_number}
 use Rattle.kdc_records.specs.declared.decision.Aim.{Aim}
 use Rattle.kdc_records.specs.declared.decision.Aim.TheVariants.{Krbtgt, Hop, Account}
 use Rattle.kdc_records.specs.declared.decision.Decision.{Decision}
@@ -23,8 +24,7 @@ use Rattle.dir_records.specs.declared.records.Account.{Account as AccountRec}
 use Rattle.dir_records.specs.DirectoryValue.{DirectoryValue}
 use Rattle.dir_core.specs.Lookups.{account_at, only_part}
 use Rattle.route_rules.specs.Aims.{resolve, resolve_account}
-use Rattle.as_core.specs.declared.stamp.StampView.{StampView}
-use Rattle.as_core.specs.declared.stamp.StampView.TheVariants.{Absent, Unread, At}
+use Rattle.as_core.specs.Stamps.{Absent, At, Stamp, Unread}
 
 -- ---- what the rules look at
 
@@ -59,9 +59,9 @@ pub record AsRequest : Type 0 where
   pub end : ℕ
   pub wish : Wish
   pub now : Moment
-  pub stamp : StampView
+  pub stamp : Stamp
 
-abbrev pub as_request : DirectoryValue → ℕ → Moment → Wish → StampView → AsRequest
+abbrev pub as_request : DirectoryValue → ℕ → Moment → Wish → Stamp → AsRequest
 as_request dir realm now wish stamp = record {
   account = client_account dir realm wish.client;
   aim = server_aim dir realm wish.server;
@@ -93,32 +93,27 @@ start_is_now now wish = starts_now now.secs wish
 abbrev pub options_are_plain : Wish → Bool
 options_are_plain wish = are_clear (2 ∷ 4 ∷ 14 ∷ 28 ∷ 30 ∷ 31 ∷ []) wish.options
 
--- the type of this number
-abbrev pub is_type : ℕ → ℤ → Bool
-is_type number (pos n) = n == number
-is_type number (negsuc n) = false
-
 -- A6: the etype list has the type of the client's key (RFC 4120, section 3.1.3)
 abbrev pub key_type_is_listed : Wish → AccountRec → Bool
-key_type_is_listed wish account = list_any (is_type (etype_number account.key.key.etype)) wish.etypes
+key_type_is_listed wish account = list_any (is_number (etype_number account.key.key.etype)) wish.etypes
 
 -- A7: an account that needs pre-authentication sends a timestamp (RFC 4120, section 3.1.3)
-abbrev pub stamp_is_there : StampView → AccountRec → Bool
+abbrev pub stamp_is_there : Stamp → AccountRec → Bool
 stamp_is_there Absent account = not account.preauth
 stamp_is_there Unread account = true
-stamp_is_there (At moment) account = true
+stamp_is_there (At micros) account = true
 
 -- A8: a timestamp opens with the client's key and reads (RFC 4120, section 5.2.7.2)
-abbrev pub stamp_is_read : StampView → Bool
+abbrev pub stamp_is_read : Stamp → Bool
 stamp_is_read Absent = true
 stamp_is_read Unread = false
-stamp_is_read (At moment) = true
+stamp_is_read (At micros) = true
 
 -- A9: a timestamp is within 300 seconds of now (RFC 4120, section 3.1.3)
-abbrev pub stamp_is_fresh : Moment → StampView → Bool
+abbrev pub stamp_is_fresh : Moment → Stamp → Bool
 stamp_is_fresh now Absent = true
 stamp_is_fresh now Unread = true
-stamp_is_fresh now (At moment) = are_within_skew moment now
+stamp_is_fresh now (At micros) = nat_le ((micros - in_micros now) + (in_micros now - micros)) 300000000
 
 -- A10: the end is later than now (RFC 4120, section 3.1.3)
 abbrev pub end_is_later : Moment → ℕ → Bool
@@ -169,10 +164,10 @@ abbrev pub may_be_delegated : AccountRec → Bool
 may_be_delegated account = not account.not_delegated
 
 -- a timestamp was opened
-abbrev pub is_stamped : StampView → Bool
+abbrev pub is_stamped : Stamp → Bool
 is_stamped Absent = false
 is_stamped Unread = false
-is_stamped (At moment) = true
+is_stamped (At micros) = true
 
 -- initial; forwardable where that is asked for and the account is not marked; pre-authent where a timestamp was opened
 abbrev pub as_flags : AsRequest → ℕ

@@ -1,1 +1,3 @@
+pub mod AsRequests
 pub mod AsRules
+pub mod Stamps

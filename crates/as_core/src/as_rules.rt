@@ -1,6 +1,7 @@
 //! The rules of an AS-REQ, each by its name (RFC 4120, section 3.1.3).
 ghost use Rattle.std.specs.Prelude.{◌≡◌, ◌≤◌};
 ghost use Rattle.as_core.specs.AsRules.{client_is_enabled, end_is_later, is_stamped, key_type_is_listed, may_be_delegated, options_are_plain, server_is_krbtgt, stamp_is_fresh, stamp_is_read, stamp_is_there, start_is_now};
+ghost use Rattle.as_core.specs.Stamps.{stamp_seen};
 
 use crate::stamp::StampView;
 use dir_core::Account;
@@ -55,7 +56,7 @@ pub(crate) fn key_type_is_listed(wish: &Wish, account: &Account) -> bool
 
 /// A7: an account that needs pre-authentication sends a timestamp.
 pub(crate) fn stamp_is_there(stamp: StampView, account: &Account) -> bool
-    ensures { result ≡ stamp_is_there stamp account.now }
+    ensures { result ≡ stamp_is_there (stamp_seen stamp) account.now }
 {
     match stamp {
         StampView::Absent => !account.preauth,
@@ -65,14 +66,14 @@ pub(crate) fn stamp_is_there(stamp: StampView, account: &Account) -> bool
 
 /// A8: a timestamp opens with the client's key and reads.
 pub(crate) fn stamp_is_read(stamp: StampView) -> bool
-    ensures { result ≡ stamp_is_read stamp }
+    ensures { result ≡ stamp_is_read (stamp_seen stamp) }
 {
     !matches!(stamp, StampView::Unread)
 }
 
 /// A9: a timestamp is within 300 seconds of now.
 pub(crate) fn stamp_is_fresh(now: Moment, stamp: StampView) -> bool
-    ensures { result ≡ stamp_is_fresh now stamp }
+    ensures { result ≡ stamp_is_fresh now (stamp_seen stamp) }
 {
     match stamp {
         StampView::Absent | StampView::Unread => true,
@@ -89,7 +90,7 @@ pub(crate) fn end_is_later(now: Moment, end: KTime) -> bool
 
 /// Whether a timestamp was opened.
 pub(crate) fn is_stamped(stamp: StampView) -> bool
-    ensures { result ≡ is_stamped stamp }
+    ensures { result ≡ is_stamped (stamp_seen stamp) }
 {
     matches!(stamp, StampView::At(_))
 }

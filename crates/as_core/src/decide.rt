@@ -5,6 +5,7 @@ ghost use Rattle.kdc_prelude.specs.Options.{holds_of};
 ghost use Rattle.kdc_prelude.specs.Verdicts.{first_failing};
 ghost use Rattle.kdc_records.specs.Bits.{bit_if, has_bit};
 ghost use Rattle.as_core.specs.AsRules.{as_decision, as_end, as_request, as_rules, client_account, client_index, is_stamped, longest_life, may_be_delegated, server_aim};
+ghost use Rattle.as_core.specs.Stamps.{stamp_seen};
 
 use crate::as_rules::*;
 use crate::stamp::StampView;
@@ -32,7 +33,7 @@ fn client_index(dir: &Directory, realm: u32, name: &Principal) -> Option<u32>
 }
 
 /// The account that asks.
-fn client_account<'a>(
+pub fn client_account<'a>(
     dir: &'a Directory,
     realm: u32,
     client: Option<&Principal>,
@@ -71,7 +72,7 @@ fn judge(
     now: Moment,
     stamp: StampView,
 ) -> Result<(), Rule>
-    ensures first { MatchResult result (λ done. first_failing (as_rules (record { account = option_copied account.entry; aim = aim; end = end; wish = wish.now; now = now; stamp = stamp })) ≡ None) (λ rule. first_failing (as_rules (record { account = option_copied account.entry; aim = aim; end = end; wish = wish.now; now = now; stamp = stamp })) ≡ Some rule) }
+    ensures first { MatchResult result (λ done. first_failing (as_rules (record { account = option_copied account.entry; aim = aim; end = end; wish = wish.now; now = now; stamp = stamp_seen stamp })) ≡ None) (λ rule. first_failing (as_rules (record { account = option_copied account.entry; aim = aim; end = end; wish = wish.now; now = now; stamp = stamp_seen stamp })) ≡ Some rule) }
 {
     let Some(account) = account else {
         return Err(Rule::A1);
@@ -93,7 +94,7 @@ fn judge(
 /// The flags of the ticket: initial; forwardable where that is asked for and the account is not marked; pre-authent where
 /// a timestamp was opened.
 fn as_flags(account: Option<&Account>, wish: &Wish, stamp: StampView) -> u32
-    ensures { result ≡ bit_if 1 (has_bit 1 wish.now.options && holds_of may_be_delegated (option_copied account.entry)) + bit_if 9 true + bit_if 10 (is_stamped stamp) }
+    ensures { result ≡ bit_if 1 (has_bit 1 wish.now.options && holds_of may_be_delegated (option_copied account.entry)) + bit_if 9 true + bit_if 10 (is_stamped (stamp_seen stamp)) }
 {
     let may_be_forwarded = match account {
         Some(account) => may_be_delegated(account),
@@ -116,7 +117,7 @@ pub fn decide_as(
     stamp: &StampView,
 ) -> Decision
     requires { realm < length dir.now.realms }
-    ensures first { result ≡ as_decision (as_request dir.now realm now wish.now stamp.now) }
+    ensures first { result ≡ as_decision (as_request dir.now realm now wish.now (stamp_seen stamp.now)) }
 {
     let account = client_account(dir, realm, wish.client.as_ref());
     let end = as_end(dir, realm, now, wish);

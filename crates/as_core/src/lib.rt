@@ -4,10 +4,12 @@
 mod as_rules;
 mod decide;
 mod law;
+mod request;
 mod stamp;
-#[cfg(test)]
-mod tests;
+mod timestamp;
 
-pub use decide::decide_as;
+pub use decide::{client_account, decide_as};
 pub use law::granted_requests_keep_rules;
+pub use request::{as_wish, judge_as};
 pub use stamp::StampView;
+pub use timestamp::stamp_of;

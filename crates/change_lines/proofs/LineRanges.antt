@@ -27,11 +27,11 @@ use Rattle.dir_records.specs.declared.records.KeyRec.{KeyRec}
 use Rattle.dir_records.specs.declared.refusal.DirCause.{DirCause}
 use Rattle.dir_records.specs.declared.refusal.DirCause.TheVariants.{BadField}
 use Rattle.dir_records.specs.Changes.{IsChangeInRange}
-use Rattle.dir_records.specs.Forms.{is_account_name, is_service}
+use Rattle.dir_records.specs.Forms.{is_account_name, is_service_name}
 use Rattle.dir_records.specs.IsDirectory.{IsKeyInRange, IsSidInRange, IsText}
 use Rattle.dir_core.proofs.EditedRanges.{all_append}
 use Rattle.change_lines.specs.ChangeLines.{add_account, by_rows, change_by_word, change_by_words, change_of, group_entry, key_in, line_rows, of_entry, reach_entry, remove_account, service_entry, set_key, set_life, set_mark, setting_in, sid_entry, text_of, words_of}
-use Rattle.change_lines.specs.Fields.{account_name_of, account_of, etype_of, key_of, number_of, octets_of, or_bad, passing, realm_of, service_of, sid_of, trust_of}
+use Rattle.change_lines.specs.Fields.{account_name_of, account_fields, etype_of, key_of, number_of, octets_of, or_bad, passing, realm_of, service_of, sid_of, trust_of}
 use Rattle.change_lines.proofs.SidRanges.{from_option, read_below, sid_in_range}
 use Rattle.change_lines.proofs.Words.{words_are_texts}
 
@@ -56,22 +56,22 @@ realm_text : (text : List ℕ) → IsText text → IfOk (realm_of text) IsText
 unfolding realm_of
 realm_text text h = tested IsText (is_name text) text (λ e. h)
 
-name_text : (text : List ℕ) → IsText text → IfOk (account_name_of text) IsText
+name_is_text : (text : List ℕ) → IsText text → IfOk (account_name_of text) IsText
 unfolding account_name_of
-name_text text h = tested IsText (is_account_name text) text (λ e. h)
+name_is_text text h = tested IsText (is_account_name text) text (λ e. h)
 
 spn_text : (text : List ℕ) → IsText text → IfOk (service_of text) IsText
 unfolding service_of
-spn_text text h = tested IsText (is_service text) text (λ e. h)
+spn_text text h = tested IsText (is_service_name text) text (λ e. h)
 
 abbrev ArePair : List ℕ × List ℕ → Type 0
 ArePair pair = IsText pair.0 × IsText pair.1
 
-account_texts : (realm name : List ℕ) → IsText realm → IsText name → IfOk (account_of realm name) ArePair
-unfolding account_of
+account_texts : (realm name : List ℕ) → IsText realm → IsText name → IfOk (account_fields realm name) ArePair
+unfolding account_fields
 account_texts realm name h k =
     bind IsText ArePair (realm_of realm) (λ r. account_name_of name >>= λ n. Ok (r, n)) (realm_text realm h)
-    (λ r p. bind IsText ArePair (account_name_of name) (λ n. Ok (r, n)) (name_text name k) (λ n q. (p, q)))
+    (λ r p. bind IsText ArePair (account_name_of name) (λ n. Ok (r, n)) (name_is_text name k) (λ n q. (p, q)))
 
 trust_texts : (realm partner : List ℕ) → IsText realm → IsText partner → IfOk (trust_of realm partner) ArePair
 unfolding trust_of
@@ -159,7 +159,7 @@ in_add_account [] h = tt
 in_add_account (realm ∷ []) h = tt
 in_add_account (realm ∷ name ∷ []) h = tt
 in_add_account (realm ∷ name ∷ number ∷ key) h =
-    bind ArePair IsChangeInRange (account_of realm name) (λ a. number_of 1 4294967295 number >>= λ i. key_in key >>= λ k. Ok (AddAccount a.0 a.1 i k)) (account_texts realm name h.0 h.1.0)
+    bind ArePair IsChangeInRange (account_fields realm name) (λ a. number_of 1 4294967295 number >>= λ i. key_in key >>= λ k. Ok (AddAccount a.0 a.1 i k)) (account_texts realm name h.0 h.1.0)
     (λ a p. bind (λ (n : ℕ). n ≤ 4294967295) IsChangeInRange (number_of 1 4294967295 number) (λ i. key_in key >>= λ k. Ok (AddAccount a.0 a.1 i k)) (number_below 1 4294967295 number)
     (λ i l. bind IsKeyInRange IsChangeInRange (key_in key) (λ k. Ok (AddAccount a.0 a.1 i k)) (key_fields key) (λ k q. (p.0, p.1, below_32 i l, q))))
 
@@ -168,7 +168,7 @@ unfolding remove_account
 in_remove_account [] h = tt
 in_remove_account (realm ∷ []) h = tt
 in_remove_account (realm ∷ name ∷ []) h =
-    bind ArePair IsChangeInRange (account_of realm name) (λ a. Ok (RemoveAccount a.0 a.1)) (account_texts realm name h.0 h.1.0) (λ a p. p)
+    bind ArePair IsChangeInRange (account_fields realm name) (λ a. Ok (RemoveAccount a.0 a.1)) (account_texts realm name h.0 h.1.0) (λ a p. p)
 in_remove_account (realm ∷ name ∷ more ∷ fields) h = tt
 
 in_set_mark : (fields : List (List ℕ)) → AreTexts fields → IfOk (set_mark fields) IsChangeInRange
@@ -176,7 +176,7 @@ unfolding set_mark
 in_set_mark [] h = tt
 in_set_mark (realm ∷ []) h = tt
 in_set_mark (realm ∷ name ∷ setting) h =
-    bind ArePair IsChangeInRange (account_of realm name) (λ a. setting_in setting >>= λ s. Ok (SetMark a.0 a.1 s.0 s.1)) (account_texts realm name h.0 h.1.0)
+    bind ArePair IsChangeInRange (account_fields realm name) (λ a. setting_in setting >>= λ s. Ok (SetMark a.0 a.1 s.0 s.1)) (account_texts realm name h.0 h.1.0)
     (λ a p. bind Any IsChangeInRange (setting_in setting) (λ s. Ok (SetMark a.0 a.1 s.0 s.1)) (any (setting_in setting)) (λ s t. p))
 
 in_set_key : (fields : List (List ℕ)) → AreTexts fields → IfOk (set_key fields) IsChangeInRange
@@ -184,7 +184,7 @@ unfolding set_key
 in_set_key [] h = tt
 in_set_key (realm ∷ []) h = tt
 in_set_key (realm ∷ name ∷ key) h =
-    bind ArePair IsChangeInRange (account_of realm name) (λ a. key_in key >>= λ k. Ok (SetKey a.0 a.1 k)) (account_texts realm name h.0 h.1.0)
+    bind ArePair IsChangeInRange (account_fields realm name) (λ a. key_in key >>= λ k. Ok (SetKey a.0 a.1 k)) (account_texts realm name h.0 h.1.0)
     (λ a p. bind IsKeyInRange IsChangeInRange (key_in key) (λ k. Ok (SetKey a.0 a.1 k)) (key_fields key) (λ k q. (p.0, p.1, q)))
 
 below_64 : (n : ℕ) → n ≤ 31536000 → n < 2 ^ 64
@@ -213,7 +213,7 @@ unfolding service_entry
 in_service_entry [] h = tt
 in_service_entry (realm ∷ []) h = tt
 in_service_entry (realm ∷ name ∷ []) h = tt
-in_service_entry (realm ∷ name ∷ spn ∷ []) h = entry_of IsText (account_of realm name) (service_of spn) (account_texts realm name h.0 h.1.0) (spn_text spn h.1.1.0)
+in_service_entry (realm ∷ name ∷ spn ∷ []) h = entry_of IsText (account_fields realm name) (service_of spn) (account_texts realm name h.0 h.1.0) (spn_text spn h.1.1.0)
 in_service_entry (realm ∷ name ∷ spn ∷ more ∷ fields) h = tt
 
 in_sid_entry : (fields : List (List ℕ)) → AreTexts fields → IfOk (sid_entry fields) (IsEntry IsSidInRange)
@@ -221,7 +221,7 @@ unfolding sid_entry
 in_sid_entry [] h = tt
 in_sid_entry (realm ∷ []) h = tt
 in_sid_entry (realm ∷ name ∷ []) h = tt
-in_sid_entry (realm ∷ name ∷ sid ∷ []) h = entry_of IsSidInRange (account_of realm name) (sid_of sid) (account_texts realm name h.0 h.1.0) (sid_field sid)
+in_sid_entry (realm ∷ name ∷ sid ∷ []) h = entry_of IsSidInRange (account_fields realm name) (sid_of sid) (account_texts realm name h.0 h.1.0) (sid_field sid)
 in_sid_entry (realm ∷ name ∷ sid ∷ more ∷ fields) h = tt
 
 in_group_entry : (fields : List (List ℕ)) → AreTexts fields → IfOk (group_entry fields) (IsEntry (λ (n : ℕ). n ≤ 4294967295))
@@ -230,7 +230,7 @@ in_group_entry [] h = tt
 in_group_entry (realm ∷ []) h = tt
 in_group_entry (realm ∷ name ∷ []) h = tt
 in_group_entry (realm ∷ name ∷ number ∷ []) h =
-    entry_of (λ (n : ℕ). n ≤ 4294967295) (account_of realm name) (number_of 0 4294967295 number) (account_texts realm name h.0 h.1.0) (number_below 0 4294967295 number)
+    entry_of (λ (n : ℕ). n ≤ 4294967295) (account_fields realm name) (number_of 0 4294967295 number) (account_texts realm name h.0 h.1.0) (number_below 0 4294967295 number)
 in_group_entry (realm ∷ name ∷ number ∷ more ∷ fields) h = tt
 
 in_reach_entry : (fields : List (List ℕ)) → AreTexts fields → IfOk (reach_entry fields) (IsEntry IsText)

@@ -11,7 +11,7 @@ use Rattle.dir_records.specs.declared.change.Mark.{Mark}
 use Rattle.dir_records.specs.declared.records.KeyRec.{KeyRec}
 use Rattle.dir_records.specs.declared.refusal.DirCause.{DirCause}
 use Rattle.dir_records.specs.declared.refusal.DirCause.TheVariants.{BadField}
-use Rattle.change_lines.specs.Fields.{account_of, key_of, mark_of, number_of, passing, realm_of, service_of, sid_of, switch_of, trust_of}
+use Rattle.change_lines.specs.Fields.{account_fields, key_of, mark_of, number_of, passing, realm_of, service_of, sid_of, switch_of, trust_of}
 
 -- ETYPE KVNO HEX
 unfoldable pub key_in : List (List ℕ) → Result KeyRec DirCause
@@ -21,7 +21,7 @@ key_in _ = Err BadField
 -- REALM NAME NUMBER ETYPE KVNO HEX
 unfoldable pub add_account : List (List ℕ) → Result Change DirCause
 add_account (realm ∷ name ∷ number ∷ key) = do
-  a ← account_of realm name
+  a ← account_fields realm name
   i ← number_of 1 4294967295 number
   k ← key_in key
   Ok (AddAccount a.0 a.1 i k)
@@ -30,7 +30,7 @@ add_account _ = Err BadField
 -- REALM NAME
 unfoldable pub remove_account : List (List ℕ) → Result Change DirCause
 remove_account (realm ∷ name ∷ []) = do
-  a ← account_of realm name
+  a ← account_fields realm name
   Ok (RemoveAccount a.0 a.1)
 remove_account _ = Err BadField
 
@@ -45,7 +45,7 @@ setting_in _ = Err BadField
 -- REALM NAME MARK on|off
 unfoldable pub set_mark : List (List ℕ) → Result Change DirCause
 set_mark (realm ∷ name ∷ setting) = do
-  a ← account_of realm name
+  a ← account_fields realm name
   s ← setting_in setting
   Ok (SetMark a.0 a.1 s.0 s.1)
 set_mark _ = Err BadField
@@ -53,7 +53,7 @@ set_mark _ = Err BadField
 -- REALM NAME ETYPE KVNO HEX
 unfoldable pub set_key : List (List ℕ) → Result Change DirCause
 set_key (realm ∷ name ∷ key) = do
-  a ← account_of realm name
+  a ← account_fields realm name
   k ← key_in key
   Ok (SetKey a.0 a.1 k)
 set_key _ = Err BadField
@@ -69,7 +69,7 @@ set_life _ = Err BadField
 -- REALM NAME SPN
 unfoldable pub service_entry : List (List ℕ) → Result (List ℕ × List ℕ × List ℕ) DirCause
 service_entry (realm ∷ name ∷ spn ∷ []) = do
-  a ← account_of realm name
+  a ← account_fields realm name
   s ← service_of spn
   Ok (a.0, a.1, s)
 service_entry _ = Err BadField
@@ -77,7 +77,7 @@ service_entry _ = Err BadField
 -- REALM NAME SID
 unfoldable pub sid_entry : List (List ℕ) → Result (List ℕ × List ℕ × SidValue) DirCause
 sid_entry (realm ∷ name ∷ sid ∷ []) = do
-  a ← account_of realm name
+  a ← account_fields realm name
   s ← sid_of sid
   Ok (a.0, a.1, s)
 sid_entry _ = Err BadField
@@ -85,7 +85,7 @@ sid_entry _ = Err BadField
 -- REALM NAME NUMBER, of a group
 unfoldable pub group_entry : List (List ℕ) → Result (List ℕ × List ℕ × ℕ) DirCause
 group_entry (realm ∷ name ∷ number ∷ []) = do
-  a ← account_of realm name
+  a ← account_fields realm name
   g ← number_of 0 4294967295 number
   Ok (a.0, a.1, g)
 group_entry _ = Err BadField

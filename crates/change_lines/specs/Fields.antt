@@ -12,7 +12,7 @@ use Rattle.krb_names.specs.SidTexts.{sid_reading}
 use Rattle.krb_names.specs.SidValue.{SidValue}
 use Rattle.krb_names.specs.declared.etype.Etype.{Etype}
 use Rattle.krb_names.specs.declared.etype.Etype.TheVariants.{Aes128, Aes256}
-use Rattle.dir_records.specs.Forms.{is_account_name, is_service}
+use Rattle.dir_records.specs.Forms.{is_account_name, is_service_name}
 use Rattle.dir_records.specs.declared.change.Mark.{Mark}
 use Rattle.dir_records.specs.declared.change.Mark.TheVariants.{Disabled, NotDelegated, TrustedToAuth, Preauth}
 use Rattle.dir_records.specs.declared.records.KeyRec.{KeyRec}
@@ -37,8 +37,8 @@ unfoldable pub account_name_of : List ℕ → Result (List ℕ) DirCause
 account_name_of text = passing is_account_name text
 
 -- REALM NAME
-unfoldable pub account_of : List ℕ → List ℕ → Result (List ℕ × List ℕ) DirCause
-account_of realm name = do
+unfoldable pub account_fields : List ℕ → List ℕ → Result (List ℕ × List ℕ) DirCause
+account_fields realm name = do
   r ← realm_of realm
   n ← account_name_of name
   Ok (r, n)
@@ -52,7 +52,7 @@ trust_of realm partner = do
 
 -- SPN, of two or three parts, the first other than `krbtgt`
 unfoldable pub service_of : List ℕ → Result (List ℕ) DirCause
-service_of text = passing is_service text
+service_of text = passing is_service_name text
 
 -- SID (MS-DTYP, section 2.4.2.1)
 unfoldable pub sid_of : List ℕ → Result SidValue DirCause

@@ -2,7 +2,7 @@
 ghost use Rattle.std.specs.Prelude.{◌≡◌, codes, length, nat_eq, IfOk};
 ghost use Rattle.std.specs.List.{starts_with};
 ghost use Rattle.krb_names.specs.Etypes.{key_length};
-ghost use Rattle.change_lines.specs.Fields.{account_name_of, account_of, etype_of, key_of, mark_of, number_of, octets_of, realm_of, service_of, sid_of, switch_of, trust_of};
+ghost use Rattle.change_lines.specs.Fields.{account_name_of, account_fields, etype_of, key_of, mark_of, number_of, octets_of, realm_of, service_of, sid_of, switch_of, trust_of};
 ghost use Rattle.change_lines.specs.Gives.{Gives};
 
 use dir_records::{DirCause, KeyRec, Mark, is_account_name};
@@ -35,9 +35,13 @@ fn account_name_of(alloc: Global, text: &str) -> Result<Text, DirCause>
 }
 
 /// REALM NAME: an account's realm and its name.
-#[tactic(auto, unfolding(crate::specs::Fields::account_of))]
-pub(crate) fn account_of(alloc: Global, realm: &str, name: &str) -> Result<(Text, Text), DirCause>
-    ensures { Gives result (account_of realm.now name.now) }
+#[tactic(auto, unfolding(crate::specs::Fields::account_fields))]
+pub(crate) fn account_fields(
+    alloc: Global,
+    realm: &str,
+    name: &str,
+) -> Result<(Text, Text), DirCause>
+    ensures { Gives result (account_fields realm.now name.now) }
 {
     let realm = realm_of(alloc, realm)?;
     let name = account_name_of(alloc, name)?;

@@ -4,7 +4,7 @@ ghost use Rattle.change_lines.specs.ChangeLines.{add_account, change_by_word, ch
 ghost use Rattle.change_lines.specs.Gives.{Gives};
 
 use crate::fields::{
-    account_of, key_of, mark_of, number_of, realm_of, service_of, sid_of, switch_of, trust_of,
+    account_fields, key_of, mark_of, number_of, realm_of, service_of, sid_of, switch_of, trust_of,
 };
 use dir_records::{Change, DirCause, KeyRec, Mark};
 use krb_names::{Sid, Spn, Text};
@@ -94,7 +94,7 @@ fn add_account(alloc: Global, fields: &[&str]) -> Result<Change, DirCause>
     let [realm, name, number, key @ ..] = fields else {
         return Err(DirCause::BadField);
     };
-    let (realm, name) = account_of(alloc, realm, name)?;
+    let (realm, name) = account_fields(alloc, realm, name)?;
     let number = number_of(number, 1, u32::MAX)?;
     let key = key_in(alloc, key)?;
     Ok(Change::AddAccount(realm, name, number, key))
@@ -108,7 +108,7 @@ fn remove_account(alloc: Global, fields: &[&str]) -> Result<Change, DirCause>
     let [realm, name] = fields else {
         return Err(DirCause::BadField);
     };
-    let (realm, name) = account_of(alloc, realm, name)?;
+    let (realm, name) = account_fields(alloc, realm, name)?;
     Ok(Change::RemoveAccount(realm, name))
 }
 
@@ -131,7 +131,7 @@ fn set_mark(alloc: Global, fields: &[&str]) -> Result<Change, DirCause>
     let [realm, name, setting @ ..] = fields else {
         return Err(DirCause::BadField);
     };
-    let (realm, name) = account_of(alloc, realm, name)?;
+    let (realm, name) = account_fields(alloc, realm, name)?;
     let (mark, on) = setting_in(setting)?;
     Ok(Change::SetMark(realm, name, mark, on))
 }
@@ -144,7 +144,7 @@ fn set_key(alloc: Global, fields: &[&str]) -> Result<Change, DirCause>
     let [realm, name, key @ ..] = fields else {
         return Err(DirCause::BadField);
     };
-    let (realm, name) = account_of(alloc, realm, name)?;
+    let (realm, name) = account_fields(alloc, realm, name)?;
     let key = key_in(alloc, key)?;
     Ok(Change::SetKey(realm, name, key))
 }
@@ -170,7 +170,7 @@ fn service_entry(alloc: Global, fields: &[&str]) -> Result<(Text, Text, Spn), Di
     let [realm, name, spn] = fields else {
         return Err(DirCause::BadField);
     };
-    let (realm, name) = account_of(alloc, realm, name)?;
+    let (realm, name) = account_fields(alloc, realm, name)?;
     let spn = service_of(alloc, spn)?;
     Ok((realm, name, spn))
 }
@@ -183,7 +183,7 @@ fn sid_entry(alloc: Global, fields: &[&str]) -> Result<(Text, Text, Sid), DirCau
     let [realm, name, sid] = fields else {
         return Err(DirCause::BadField);
     };
-    let (realm, name) = account_of(alloc, realm, name)?;
+    let (realm, name) = account_fields(alloc, realm, name)?;
     let sid = sid_of(sid)?;
     Ok((realm, name, sid))
 }
@@ -196,7 +196,7 @@ fn group_entry(alloc: Global, fields: &[&str]) -> Result<(Text, Text, u32), DirC
     let [realm, name, number] = fields else {
         return Err(DirCause::BadField);
     };
-    let (realm, name) = account_of(alloc, realm, name)?;
+    let (realm, name) = account_fields(alloc, realm, name)?;
     let number = number_of(number, 0, u32::MAX)?;
     Ok((realm, name, number))
 }

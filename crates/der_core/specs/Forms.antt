@@ -49,7 +49,7 @@ within low high = record {
 abbrev pub int_within : ℤ → ℤ → Codec ℤ
 int_within low high = element_of 2 (within low high)
 
--- Int32 (RFC 4120 5.2.4)
+-- Int32 (RFC 4120, section 5.2.4)
 abbrev pub int32 : Codec ℤ
 int32 = int_within (negsuc 2147483647) (pos 2147483647)
 
@@ -57,7 +57,7 @@ abbrev pub natural : ℤ → ℕ
 natural (pos n) = n
 natural (negsuc n) = 0
 
--- UInt32 (RFC 4120 5.2.4)
+-- UInt32 (RFC 4120, section 5.2.4)
 abbrev pub uint32 : Codec ℕ
 uint32 = mapped (int_within (pos 0) (pos 4294967295)) natural pos
 
@@ -67,7 +67,7 @@ number_is n = mapped (int_within n n) (λ _. tt) (λ _. n)
 
 -- ---- strings
 
--- BIT STRING, its first 32 bits (KerberosFlags, RFC 4120 5.2.8)
+-- BIT STRING, its first 32 bits (KerberosFlags, RFC 4120, section 5.2.8)
 abbrev pub bits : Codec ℕ
 bits = element_of 3 bit_strings
 

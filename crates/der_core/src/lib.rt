@@ -13,6 +13,3 @@ pub use laws::single_values_keep_laws;
 pub use reader::Reader;
 pub use refusal::{DerCause, DerRefusal};
 pub use writer::Writer;
-
-#[cfg(test)]
-mod tests;

@@ -1,4 +1,4 @@
--- EncryptionKey ::= SEQUENCE { keytype [0] Int32, keyvalue [1] OCTET STRING } (RFC 4120 5.2.9), of type 17 or 18 (RFC 3962).
+-- EncryptionKey ::= SEQUENCE { keytype [0] Int32, keyvalue [1] OCTET STRING } (RFC 4120, section 5.2.9), of type 17 or 18 (RFC 3962).
 use Rattle.std.specs.Prelude.{ℕ, ℤ, pos, negsuc, List, nat_eq, length, if◌then◌else◌}
 use Rattle.der_core.specs.declared.refusal.DerCause.TheVariants.{LengthForm}
 use Rattle.der_core.specs.Codec.{Codec, element_of, such, mapped}

@@ -1,4 +1,4 @@
--- Realm (RFC 4120 5.2.2): a GeneralString that is one name text.
+-- Realm (RFC 4120, section 5.2.2): a GeneralString that is one name text.
 use Rattle.std.specs.Prelude.{ℕ, List}
 use Rattle.der_core.specs.Codec.{Codec}
 use Rattle.der_core.specs.Forms.{text_such}

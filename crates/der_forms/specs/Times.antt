@@ -1,4 +1,4 @@
--- KerberosTime ::= GeneralizedTime (RFC 4120 5.2.3): `YYYYMMDDHHMMSSZ` of a second from 1970 on.
+-- KerberosTime ::= GeneralizedTime (RFC 4120, section 5.2.3): `YYYYMMDDHHMMSSZ` of a second from 1970 on.
 use Rattle.std.specs.Prelude.{◌≡◌, ℕ, Bool, nat_le, Option, Some, None, Result, Ok, Err}
 use Rattle.der_core.specs.declared.refusal.DerRefusal.{DerRefusal}
 use Rattle.der_core.specs.declared.refusal.DerCause.TheVariants.{BadText}

@@ -9,21 +9,21 @@ use Rattle.der_forms.specs.declared.value.Flags.{Flags}
 use Rattle.der_forms.specs.declared.value.Micros.{Micros}
 use Rattle.der_forms.specs.declared.value.Nonce.{Nonce}
 
--- KerberosFlags (RFC 4120 5.2.8)
+-- KerberosFlags (RFC 4120, section 5.2.8)
 abbrev pub flags : Codec Flags
 flags = mapped bits (λ n. record { 0 = n }) (λ f. f.0)
 
 pub flags_lawful : IsCodec flags
 flags_lawful = mapped_lawful _ _ _ (λ n fits. refl) bits_lawful
 
--- UInt32 (RFC 4120 5.2.4), from -2^31 on, since some clients write a nonce as Int32 (own choice)
+-- UInt32 (RFC 4120, section 5.2.4), from -2^31 on, since some clients write a nonce as Int32 (own choice)
 abbrev pub nonce : Codec Nonce
 nonce = mapped (int_within (negsuc 2147483647) (pos 4294967295)) (λ n. record { 0 = n }) (λ x. x.0)
 
 pub nonce_lawful : IsCodec nonce
 nonce_lawful = mapped_lawful _ _ _ (λ n fits. refl) (int_within_lawful (negsuc 2147483647) (pos 4294967295))
 
--- Microseconds, 0 to 999,999 (RFC 4120 5.2.4)
+-- Microseconds, 0 to 999,999 (RFC 4120, section 5.2.4)
 abbrev pub micros : Codec Micros
 micros = mapped (int_within (pos 0) (pos 999999)) (λ n. record { 0 = n }) (λ x. x.0)
 

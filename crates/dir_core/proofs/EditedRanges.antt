@@ -16,7 +16,7 @@ use Rattle.dir_records.specs.declared.records.KeyRec.{KeyRec}
 use Rattle.dir_records.specs.declared.records.RealmRec.{RealmRec}
 use Rattle.dir_records.specs.declared.records.SpentNumber.{SpentNumber}
 use Rattle.dir_records.specs.declared.records.Trust.{Trust}
-use Rattle.dir_records.specs.Changes.{IsChangeInRange, account_of, partner_of, realm_of}
+use Rattle.dir_records.specs.Changes.{IsChangeInRange, named_account, partner_of, realm_of}
 use Rattle.dir_records.specs.DirectoryValue.{DirectoryValue}
 use Rattle.dir_records.specs.IsDirectory.{IsAccountInRange, IsInRange, IsKeyInRange, IsRealmInRange, IsSidInRange, IsSpentNumberInRange, IsText, IsTrustInRange}
 use Rattle.dir_core.specs.Edits.{account_after, account_in, accounts_after, changed_account, edited, edited_account, edited_realm, edited_trust, is_named, key_taken, life_after, marked, new_account, number_taken, realm_after, trust_after, without}
@@ -104,7 +104,7 @@ edited_account_in_range (AddReach realm partner reach) v account h = h
 edited_account_in_range (RemoveReach realm partner reach) v account h = h
 
 after_in_range : (change : Change) → IsChangeInRange change → (account : Account) → IsAccountInRange account → IsAccountInRange (account_after change account)
-after_in_range change v account h = either IsAccountInRange (is_named (account_of change) account.name) account (edited_account change account) h (edited_account_in_range change v account h)
+after_in_range change v account h = either IsAccountInRange (is_named (named_account change) account.name) account (edited_account change account) h (edited_account_in_range change v account h)
 
 mapped_in_range : (change : Change) → IsChangeInRange change → (accounts : List Account) → AllByRecursion IsAccountInRange accounts → AllByRecursion IsAccountInRange (map (account_after change) accounts)
 mapped_in_range change v accounts h = all_map IsAccountInRange (account_after change) (after_in_range change v) accounts h
@@ -246,8 +246,9 @@ listed P None h = tt
 listed P (Some x) h = (h, tt)
 
 pub edited_in_range : (dir : DirectoryValue) (change : Change) → IsInRange dir → IsChangeInRange change → IsInRange (edited dir change)
+unfolding edited
 edited_in_range dir change h v =
-    let found = account_in_range dir (realm_named dir (realm_of change)) (account_of change) h in
+    let found = account_in_range dir (realm_named dir (realm_of change)) (named_account change) h in
     let key = and_then IsAccountInRange IsKeyInRange (key_taken change) (changed_account dir change) found (key_in_range change) in
     let number = and_then IsAccountInRange IsSpentNumberInRange (number_taken change) (changed_account dir change) found (number_in_range change v) in
     record {

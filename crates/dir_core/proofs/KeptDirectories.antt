@@ -18,11 +18,12 @@ ok_same : {X E : Type 0} (x y : X) (r : Result X E) → r ≡ Ok x → r ≡ Ok 
 ok_same x y r h k = cc
 
 -- what is not refused is what was made
-made : (cause : Option DirCause) (dir after : DirectoryValue) → unless_refused cause dir ≡ Ok after → (cause ≡ None) × (dir ≡ after)
+pub made : (cause : Option DirCause) (dir after : DirectoryValue) → unless_refused cause dir ≡ Ok after → (cause ≡ None) × (dir ≡ after)
 made None dir after h = (refl, ok_same dir after (unless_refused {R = DirCause} None dir) refl h)
 made (Some cause) dir after h = absurd (cc)
 
 pub changed_keeps : (dir after : DirectoryValue) (change : Change) → IsDirectory dir → IsChangeInRange change → changed dir change ≡ Ok after → IsDirectory after
+unfolding changed
 changed_keeps dir after change h v e =
     let is = made (change_cause dir change) (edited dir change) after e in
     let kept = (neither (first_failing (own_rows dir change)) (first_failing (kept_rows (edited dir change))) is.0).1 in

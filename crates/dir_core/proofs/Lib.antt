@@ -1,3 +1,4 @@
+pub mod ChangeSteps
 pub mod EditedBounds
 pub mod EditedRanges
 pub mod KeptDirectories

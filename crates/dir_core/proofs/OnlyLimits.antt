@@ -21,9 +21,9 @@ use Rattle.dir_records.specs.declared.refusal.DirCause.TheVariants.{NotJson, Mis
 use Rattle.dir_records.specs.declared.refusal.DirPlace.{DirPlace}
 use Rattle.dir_records.specs.declared.refusal.DirPlace.TheVariants.{Whole, Realm, Account as AtAccount, Trust as AtTrust}
 use Rattle.dir_records.specs.declared.refusal.DirRefusal.{DirRefusal}
-use Rattle.dir_records.specs.Changes.{account_of, has_forms, has_value_forms, partner_of, passes, realm_of}
+use Rattle.dir_records.specs.Changes.{named_account, has_forms, has_value_forms, partner_of, passes, realm_of}
 use Rattle.dir_records.specs.DirectoryValue.{DirectoryValue}
-use Rattle.dir_records.specs.Forms.{is_account_name, is_key, is_positive, is_service}
+use Rattle.dir_records.specs.Forms.{is_account_name, is_key, is_positive, is_service_name}
 use Rattle.dir_records.specs.Members.{account_fault, accounts_refusal, identity_rows, list_rows, members_refusal, realm_refusal, realm_rows, realms_refusal, refused_at, trust_rows, trusts_refusal, whole_rows}
 use Rattle.dir_records.specs.WellFormed.{clash_refusal, first_refusal, has_few_spent, is_well_formed}
 use Rattle.dir_records.proofs.Bounds.{from_none, neither}
@@ -63,7 +63,7 @@ abbrev has_identity : Account → Bool
 has_identity account = is_account_name account.name && is_positive account.number && is_key account.key && nat_le (length account.salt) 1024
 
 abbrev has_services : Account → Bool
-has_services account = list_all is_service account.spns && list_all is_service account.classic
+has_services account = list_all is_service_name account.spns && list_all is_service_name account.classic
 
 four : (a b c d : Bool) → first_failing ((BadField, a) ∷ (BadField, b) ∷ (BadField, c) ∷ (BadField, d) ∷ []) ≡ None → (a && b && c && d) ≡ true
 four true true true true h = refl
@@ -102,14 +102,14 @@ account_forms : (account : Account) → account_fault account ≡ None → has_a
 account_forms account h =
     let parts = neither (first_failing (identity_rows account)) (first_failing (list_rows account)) h in
     let identity = four (is_account_name account.name) (is_positive account.number) (is_key account.key) (nat_le (length account.salt) 1024) parts.0 in
-    let services = six (nat_le (length account.spns) 32) (list_all is_service account.spns) (nat_le (length account.classic) 256) (list_all is_service account.classic) (nat_le (length account.resource) 256) (nat_le (length account.groups) 128) parts.1 in
+    let services = six (nat_le (length account.spns) 32) (list_all is_service_name account.spns) (nat_le (length account.classic) 256) (list_all is_service_name account.classic) (nat_le (length account.resource) 256) (nat_le (length account.groups) 128) parts.1 in
     rw (identity, services) refl
 
 account_limits : (account : Account) → has_account_forms account ≡ true → limits (account_fault account) ≡ true
 account_limits account h =
     let parts = both_true (has_identity account) (has_services account) h in
     let identity = four_pass (is_account_name account.name) (is_positive account.number) (is_key account.key) (nat_le (length account.salt) 1024) parts.0 in
-    let services = six_limits (nat_le (length account.spns) 32) (list_all is_service account.spns) (nat_le (length account.classic) 256) (list_all is_service account.classic) (nat_le (length account.resource) 256) (nat_le (length account.groups) 128) parts.1 in
+    let services = six_limits (nat_le (length account.spns) 32) (list_all is_service_name account.spns) (nat_le (length account.classic) 256) (list_all is_service_name account.classic) (nat_le (length account.resource) 256) (nat_le (length account.groups) 128) parts.1 in
     ap (λ fault. limits (fault or_else first_failing (list_rows account))) identity ∙ services
 
 accounts_forms : (at number : ℕ) (accounts : List Account) → accounts_refusal at number accounts ≡ None → list_all has_account_forms accounts ≡ true
@@ -247,10 +247,10 @@ four_true false b c d h = absurd (cc)
 
 -- what the forms of an account are
 forms_of : (account : Account) → has_account_forms account ≡ true
-    → (has_identity account ≡ true) × (list_all is_service account.spns ≡ true) × (list_all is_service account.classic ≡ true)
+    → (has_identity account ≡ true) × (list_all is_service_name account.spns ≡ true) × (list_all is_service_name account.classic ≡ true)
 forms_of account h =
     let parts = both_true (has_identity account) (has_services account) h in
-    let services = both_true (list_all is_service account.spns) (list_all is_service account.classic) parts.1 in
+    let services = both_true (list_all is_service_name account.spns) (list_all is_service_name account.classic) parts.1 in
     (parts.0, services.0, services.1)
 
 marked_forms : (mark : Mark) (on : Bool) (account : Account) → has_account_forms account ≡ true → has_account_forms (marked mark on account) ≡ true
@@ -265,21 +265,21 @@ rekeyed_forms key account k h =
     let identity = four_true (is_account_name account.name) (is_positive account.number) (is_key account.key) (nat_le (length account.salt) 1024) forms.0 in
     rw (identity.0, identity.1, k, identity.3, forms.1, forms.2) refl
 
-spns_forms : (spns : List (List ℕ)) (account : Account) → list_all is_service spns ≡ true → has_account_forms account ≡ true → has_account_forms (record account { spns = spns }) ≡ true
+spns_forms : (spns : List (List ℕ)) (account : Account) → list_all is_service_name spns ≡ true → has_account_forms account ≡ true → has_account_forms (record account { spns = spns }) ≡ true
 spns_forms spns account k h = let forms = forms_of account h in rw (forms.0, k, forms.2) refl
 
-classic_forms : (classic : List (List ℕ)) (account : Account) → list_all is_service classic ≡ true → has_account_forms account ≡ true → has_account_forms (record account { classic = classic }) ≡ true
+classic_forms : (classic : List (List ℕ)) (account : Account) → list_all is_service_name classic ≡ true → has_account_forms account ≡ true → has_account_forms (record account { classic = classic }) ≡ true
 classic_forms classic account k h = let forms = forms_of account h in rw (forms.0, forms.1, k) refl
 
 edited_forms : (change : Change) → has_value_forms change ≡ true → (account : Account) → has_account_forms account ≡ true → has_account_forms (edited_account change account) ≡ true
 edited_forms (SetMark realm name mark on) v account h = marked_forms mark on account h
 edited_forms (SetKey realm name key) v account h = rekeyed_forms key account v h
-edited_forms (AddSpn realm name spn) v account h = spns_forms (account.spns ++ spn ∷ []) account (all_append is_service account.spns spn (forms_of account h).1 v) h
+edited_forms (AddSpn realm name spn) v account h = spns_forms (account.spns ++ spn ∷ []) account (all_append is_service_name account.spns spn (forms_of account h).1 v) h
 edited_forms (RemoveSpn realm name spn) v account h =
-    spns_forms (without same_text spn account.spns) account (all_filter is_service (λ other. not (same_text other spn)) account.spns (forms_of account h).1) h
-edited_forms (AddClassic realm name spn) v account h = classic_forms (account.classic ++ spn ∷ []) account (all_append is_service account.classic spn (forms_of account h).2 v) h
+    spns_forms (without same_text spn account.spns) account (all_filter is_service_name (λ other. not (same_text other spn)) account.spns (forms_of account h).1) h
+edited_forms (AddClassic realm name spn) v account h = classic_forms (account.classic ++ spn ∷ []) account (all_append is_service_name account.classic spn (forms_of account h).2 v) h
 edited_forms (RemoveClassic realm name spn) v account h =
-    classic_forms (without same_text spn account.classic) account (all_filter is_service (λ other. not (same_text other spn)) account.classic (forms_of account h).2) h
+    classic_forms (without same_text spn account.classic) account (all_filter is_service_name (λ other. not (same_text other spn)) account.classic (forms_of account h).2) h
 edited_forms (AddResource realm name sid) v account h = h
 edited_forms (RemoveResource realm name sid) v account h = h
 edited_forms (AddGroup realm name number) v account h = h
@@ -295,7 +295,7 @@ either_account true old new h k = k
 either_account false old new h k = h
 
 after_forms : (change : Change) → has_value_forms change ≡ true → (account : Account) → has_account_forms account ≡ true → has_account_forms (account_after change account) ≡ true
-after_forms change v account h = either_account (is_named (account_of change) account.name) account (edited_account change account) h (edited_forms change v account h)
+after_forms change v account h = either_account (is_named (named_account change) account.name) account (edited_account change account) h (edited_forms change v account h)
 
 or_false : (b : Bool) → (b || false) ≡ false → b ≡ false
 or_false true h = absurd (cc)
@@ -424,9 +424,10 @@ whole_passes change realms h = rw (length-map realms (realm_after change)) h
 
 pub only_limits : (dir : DirectoryValue) (change : Change) → is_well_formed dir ≡ true → has_forms change ≡ true
     → IfSome (members_refusal (edited dir change).realms) (λ refusal. refusal.cause ≡ TooMany)
+unfolding is_well_formed edited
 only_limits dir change h f =
     let realms = dir.realms in
-    let forms = four_true (is_name (realm_of change)) (passes is_account_name (account_of change)) (passes is_name (partner_of change)) (has_value_forms change) f in
+    let forms = four_true (is_name (realm_of change)) (passes is_account_name (named_account change)) (passes is_name (partner_of change)) (has_value_forms change) f in
     let members = (neither (members_refusal realms) (refused_at Whole (first_failing ((TooMany, has_few_spent dir) ∷ [])) or_else clash_refusal dir) (from_none (first_refusal dir) h)).0 in
     let parts = neither (refused_at Whole (first_failing (whole_rows realms))) (realms_refusal 0 0 realms) members in
     let old = realms_forms 0 0 realms parts.1 in

@@ -13,7 +13,7 @@ use Rattle.dir_records.specs.declared.records.RealmRec.{RealmRec}
 use Rattle.dir_records.specs.declared.records.SpentNumber.{SpentNumber}
 use Rattle.dir_records.specs.declared.refusal.DirCause.TheVariants.{Duplicate, SameKey, UnknownRef}
 use Rattle.dir_records.specs.declared.refusal.DirPlace.{DirPlace}
-use Rattle.dir_records.specs.Clashes.{◌or_earlier◌, duplicate, entry_repeat, in_realms, overlaps, realm_names, realm_sids, same_key, unknown_reference}
+use Rattle.dir_records.specs.Clashes.{◌or_earlier◌, duplicate, entry_repeat, in_realms, overlaps, realm_names, realm_sids, shared_key, unknown_reference}
 use Rattle.dir_records.specs.DirectoryValue.{DirectoryValue}
 use Rattle.dir_records.specs.Marks.{account_marks, marks_of, name_marks, number_marks, partner_marks, spent_number_marks, spn_marks}
 use Rattle.dir_records.specs.Repeats.{first_repeat}
@@ -78,7 +78,7 @@ pub record AreSidsApart (realms : List RealmRec) : Type 0 where
 pub sids_apart : (dir : DirectoryValue) → is_well_formed dir ≡ true → AreSidsApart dir.realms
 sids_apart dir h =
     let realms = dir.realms in
-    let found = no_duplicate (duplicate dir.spent_numbers realms) (neither (refused_for Duplicate (duplicate dir.spent_numbers realms)) (refused_for SameKey (same_key dir.spent_keys realms) or_else refused_for UnknownRef (unknown_reference realms)) (clash_none dir h)).0 in
+    let found = no_duplicate (duplicate dir.spent_numbers realms) (neither (refused_for Duplicate (duplicate dir.spent_numbers realms)) (refused_for SameKey (shared_key dir.spent_keys realms) or_else refused_for UnknownRef (unknown_reference realms)) (clash_none dir h)).0 in
     let entries = in_realms entry_repeat 0 realms in
     let spns = first_repeat same_text (marks_of spn_marks realms) in
     let partners = in_realms (λ at realm. first_repeat same_text (partner_marks at realm)) 0 realms in

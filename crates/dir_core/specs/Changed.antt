@@ -11,7 +11,7 @@ use Rattle.dir_records.specs.declared.records.Account.{Account}
 use Rattle.dir_records.specs.declared.records.Trust.{Trust}
 use Rattle.dir_records.specs.declared.refusal.DirCause.{DirCause}
 use Rattle.dir_records.specs.declared.refusal.DirCause.TheVariants.{BadField, UnknownRef}
-use Rattle.dir_records.specs.Changes.{account_of, has_forms, partner_of, realm_of}
+use Rattle.dir_records.specs.Changes.{named_account, has_forms, partner_of, realm_of}
 use Rattle.dir_records.specs.DirectoryValue.{DirectoryValue}
 use Rattle.dir_records.specs.WellFormed.{kept_rows, unless_refused}
 use Rattle.dir_core.specs.Edits.{changed_account, changed_trust, edited}
@@ -36,7 +36,7 @@ abbrev pub own_rows : DirectoryValue → Change → List (DirCause × Bool)
 own_rows dir change =
     (BadField, has_forms change)
     ∷ (UnknownRef, is_some (realm_named dir (realm_of change)))
-    ∷ (UnknownRef, is_none (account_of change) || holds_of (has_entry change) (changed_account dir change))
+    ∷ (UnknownRef, is_none (named_account change) || holds_of (has_entry change) (changed_account dir change))
     ∷ (UnknownRef, is_none (partner_of change) || holds_of (has_reach change) (changed_trust dir change))
     ∷ []
 
@@ -47,5 +47,5 @@ abbrev pub change_cause : DirectoryValue → Change → Option DirCause
 change_cause dir change = first_failing (own_rows dir change) or_else first_failing (kept_rows (edited dir change))
 
 -- the directory after a change, or why it is refused
-abbrev pub changed : DirectoryValue → Change → Result DirectoryValue DirCause
+unfoldable pub changed : DirectoryValue → Change → Result DirectoryValue DirCause
 changed dir change = unless_refused (change_cause dir change) (edited dir change)

@@ -13,7 +13,7 @@ use Rattle.dir_records.specs.declared.records.KeyRec.{KeyRec}
 use Rattle.dir_records.specs.declared.records.RealmRec.{RealmRec}
 use Rattle.dir_records.specs.declared.records.SpentNumber.{SpentNumber}
 use Rattle.dir_records.specs.declared.records.Trust.{Trust}
-use Rattle.dir_records.specs.Changes.{account_of, partner_of, realm_of}
+use Rattle.dir_records.specs.Changes.{named_account, partner_of, realm_of}
 use Rattle.dir_records.specs.DirectoryValue.{DirectoryValue}
 use Rattle.dir_core.specs.Lookups.{account_at, account_named, realm_named}
 
@@ -64,7 +64,7 @@ edited_account (RemoveGroup realm name number) account = record account { groups
 edited_account _ account = account
 
 abbrev pub account_after : Change → Account → Account
-account_after change account = if is_named (account_of change) account.name then edited_account change account else account
+account_after change account = if is_named (named_account change) account.name then edited_account change account else account
 
 abbrev pub accounts_after : Change → List Account → List Account
 accounts_after (AddAccount realm name number key) accounts = accounts ++ new_account realm name number key ∷ []
@@ -103,17 +103,17 @@ account_in dir (Some realm) (Some name) = option_and_then (account_at dir realm)
 
 -- the account that a change is made to, as it is before
 abbrev pub changed_account : DirectoryValue → Change → Option Account
-changed_account dir change = account_in dir (realm_named dir (realm_of change)) (account_of change)
+changed_account dir change = account_in dir (realm_named dir (realm_of change)) (named_account change)
 
 -- the trust with a partner in the realm at an index
-abbrev pub trust_in : DirectoryValue → Option ℕ → Option (List ℕ) → Option Trust
-trust_in dir None partner = None
-trust_in dir (Some realm) None = None
-trust_in dir (Some realm) (Some partner) = option_and_then (λ found. find (λ trust. same_text trust.partner partner) found.trusts) (slice_get dir.realms realm)
+abbrev pub trust_with : DirectoryValue → Option ℕ → Option (List ℕ) → Option Trust
+trust_with dir None partner = None
+trust_with dir (Some realm) None = None
+trust_with dir (Some realm) (Some partner) = option_and_then (λ found. find (λ trust. same_text trust.partner partner) found.trusts) (slice_get dir.realms realm)
 
 -- the trust that a change is made to, as it is before
 abbrev pub changed_trust : DirectoryValue → Change → Option Trust
-changed_trust dir change = trust_in dir (realm_named dir (realm_of change)) (partner_of change)
+changed_trust dir change = trust_with dir (realm_named dir (realm_of change)) (partner_of change)
 
 -- the key that a change takes away from an account: a removal its key, a new key the one before, unless they are the same
 abbrev pub key_taken : Change → Account → Option KeyRec
@@ -127,7 +127,7 @@ number_taken (RemoveAccount realm name) account = Some (record { realm = realm; 
 number_taken _ account = None
 
 -- the directory's contents after the change
-abbrev pub edited : DirectoryValue → Change → DirectoryValue
+unfoldable pub edited : DirectoryValue → Change → DirectoryValue
 edited dir change = record {
   realms = map (realm_after change) dir.realms;
   spent_keys = dir.spent_keys ++ option_to_list (option_and_then (key_taken change) (changed_account dir change));

@@ -1,7 +1,7 @@
 //! Accounts after a change.
 ghost use Rattle.std.specs.Prelude.{◌≡◌, ◌++◌, IfOk, OnOk, filter, map, not};
 ghost use Rattle.kdc_prelude.specs.Texts.{same_text};
-ghost use Rattle.dir_records.specs.Changes.{account_of};
+ghost use Rattle.dir_records.specs.Changes.{named_account};
 ghost use Rattle.dir_core.specs.Edits.{account_after, accounts_after, edited_account, is_named, marked, new_account, without};
 
 use dir_records::{Account, Change, Entry, KeyRec, Mark};
@@ -105,7 +105,7 @@ fn account_after(alloc: Global, change: &Change, account: &Account) -> Result<Ac
 
 /// Whether the change is made to this account.
 fn is_changed(change: &Change, account: &Account) -> bool
-    ensures { result ≡ is_named (account_of change.now) account.now.name }
+    ensures { result ≡ is_named (named_account change.now) account.now.name }
 {
     match change.account() {
         Some(name) => account.name.as_str() == name,

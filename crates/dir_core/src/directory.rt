@@ -9,7 +9,7 @@ ghost use Rattle.dir_core.specs.Changed.{changed, own_rows};
 ghost use Rattle.dir_core.specs.Edits.{changed_account, changed_trust, edited};
 ghost use Rattle.dir_core.specs.Lookups.{account_at, account_named, account_of, account_serving, accounts_at, has_sid, has_spn, is_reached, next_hop, place_of, realm_named, sid_at, sid_place, spn_place, trusts_at};
 ghost use Rattle.dir_records.specs.IsDirectory.{IsDirectory, IsRealm};
-ghost use Rattle.dir_records.specs.WellFormed.{directory_of, first_refusal, is_well_formed, no_memory, unless_refused};
+ghost use Rattle.dir_records.specs.WellFormed.{directory_of_realms, first_refusal, is_well_formed, no_memory, unless_refused};
 
 use crate::allowed::{find_trust, is_account_found, is_trust_found};
 use crate::lookups::{
@@ -53,7 +53,7 @@ impl Directory {
     /// The first reason for which they make none, with its place: a member that breaks a condition or a limit; else
     /// `Duplicate`; else `SameKey`; else `UnknownRef`. `NoMemory` at `Whole`.
     pub fn new(alloc: Global, realms: Vec<RealmRec>) -> Result<Directory, DirRefusal>
-        ensures { Answers no_memory result (directory_of realms.items) }
+        ensures { Answers no_memory result (directory_of_realms realms.items) }
     {
         Directory::of_contents(
             alloc,
@@ -70,6 +70,7 @@ impl Directory {
     ///
     /// # Errors
     /// As `new`; of the limits, that of the spent keys and the spent numbers is told last, `TooMany` at `Whole`.
+    #[tactic(auto, unfolding(dir_records::specs::WellFormed::is_well_formed))]
     pub fn of_contents(alloc: Global, contents: Contents) -> Result<Directory, DirRefusal>
         ensures { Answers no_memory result (unless_refused (first_refusal contents) contents) }
     {
@@ -251,6 +252,7 @@ impl Directory {
         Ok(())
     }
 
+    #[tactic(auto, unfolding(crate::specs::Changed::changed))]
     fn changed(&self, change: &Change) -> Result<Directory, DirCause>
         ensures { Answers DirCause.NoMemory result (changed self.now change.now) }
     {
@@ -309,6 +311,7 @@ impl Directory {
     }
 
     /// The contents after a change.
+    #[tactic(auto, unfolding(crate::specs::Edits::edited))]
     fn edited(&self, change: &Change) -> Result<Contents, AllocError>
         ensures value { IfOk result (λ contents. contents ≡ edited self.now change.now) }
         ensures few { IfOk result (λ contents. length contents.realms ≤ 64) }

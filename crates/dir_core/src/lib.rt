@@ -3,23 +3,21 @@
 
 mod account_edits;
 mod allowed;
-#[cfg(test)]
-mod change_tests;
 mod directory;
 mod laws;
 mod lookups;
 mod realm_edits;
 mod taken;
-#[cfg(test)]
-mod tests;
 
 pub use dir_records::{
     Account, Accounts, Change, Contents, DirCause, DirPlace, DirRefusal, KeyRec, Mark, RealmRec,
-    SpentNumber, Trust, Trusts, is_account_name, is_service,
+    SpentNumber, Trust, Trusts, is_account_name, is_service_name,
 };
 pub use directory::Directory;
 pub use kdc_records::{
     Aim, Branch, Decision, Delegation, Holder, Rule, Subject, Terms, TicketRec, Wish, error_code,
 };
-pub use laws::{changes_keep_directories, only_limits_are_left};
+pub use laws::{
+    changes_have_causes, changes_keep_directories, edits_by_parts, only_limits_are_left,
+};
 pub use lookups::has_text;

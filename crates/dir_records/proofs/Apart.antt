@@ -12,7 +12,7 @@ use Rattle.dir_records.specs.declared.refusal.DirPlace.{DirPlace}
 use Rattle.dir_records.specs.declared.refusal.DirPlace.TheVariants.{Account as AtAccount}
 use Rattle.dir_records.specs.declared.refusal.DirCause.{DirCause}
 use Rattle.dir_records.specs.declared.refusal.DirCause.TheVariants.{Duplicate, SameKey, UnknownRef}
-use Rattle.dir_records.specs.Clashes.{◌or_earlier◌, duplicate, entry_repeat, in_realms, is_before, overlaps, realm_names, realm_sids, same_key, unknown_reference}
+use Rattle.dir_records.specs.Clashes.{◌or_earlier◌, duplicate, entry_repeat, in_realms, is_before, overlaps, realm_names, realm_sids, shared_key, unknown_reference}
 use Rattle.dir_records.specs.Marks.{account_marks, marks_from, marks_of, name_marks, number_marks, partner_marks, spent_number_marks, spn_marks, spn_marks_from}
 use Rattle.dir_records.specs.DirectoryValue.{DirectoryValue}
 use Rattle.dir_records.specs.WellFormed.{is_well_formed, refused_for}
@@ -74,7 +74,7 @@ pub are_apart : (dir : DirectoryValue) → is_well_formed dir ≡ true → IsApa
 are_apart dir h =
     let realms = dir.realms in
     let clash = clash_none dir h in
-    let found = not_refused Duplicate (duplicate dir.spent_numbers realms) (neither (refused_for Duplicate (duplicate dir.spent_numbers realms)) (refused_for SameKey (same_key dir.spent_keys realms) or_else refused_for UnknownRef (unknown_reference realms)) clash).0 in
+    let found = not_refused Duplicate (duplicate dir.spent_numbers realms) (neither (refused_for Duplicate (duplicate dir.spent_numbers realms)) (refused_for SameKey (shared_key dir.spent_keys realms) or_else refused_for UnknownRef (unknown_reference realms)) clash).0 in
     let entries = in_realms entry_repeat 0 realms in
     let spns = first_repeat same_text (marks_of spn_marks realms) in
     let partners = in_realms (λ at realm. first_repeat same_text (partner_marks at realm)) 0 realms in

@@ -111,6 +111,7 @@ pub few_wide_accounts : (realms : List RealmRec) → AreBounded realms → All (
 few_wide_accounts realms h = λ i d l. below (length (get_or realms i d).accounts) (h.each i d l).accounts
 
 parts_none : (dir : DirectoryValue) → is_well_formed dir ≡ true → (members_refusal dir.realms ≡ None) × (clash_refusal dir ≡ None)
+unfolding is_well_formed
 parts_none dir h =
     let spent = refused_at Whole (first_failing ((TooMany, has_few_spent dir) ∷ [])) in
     let members = neither (members_refusal dir.realms) (spent or_else clash_refusal dir) (from_none (first_refusal dir) h) in

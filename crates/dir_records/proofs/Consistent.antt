@@ -20,7 +20,7 @@ use Rattle.dir_records.specs.declared.refusal.DirCause.TheVariants.{Duplicate, S
 use Rattle.dir_records.specs.declared.refusal.DirPlace.{DirPlace}
 use Rattle.dir_records.specs.declared.refusal.DirPlace.TheVariants.{Whole}
 use Rattle.dir_records.specs.declared.refusal.DirRefusal.{DirRefusal}
-use Rattle.dir_records.specs.Clashes.{◌or_earlier◌, duplicate, entry_repeat, has_distinct_entries, has_references, in_realms, overlaps, realm_names, realm_sids, same_key, unknown_in, unknown_reference}
+use Rattle.dir_records.specs.Clashes.{◌or_earlier◌, duplicate, entry_repeat, has_distinct_entries, has_references, in_realms, overlaps, realm_names, realm_sids, shared_key, unknown_in, unknown_reference}
 use Rattle.dir_records.specs.DirectoryValue.{DirectoryValue}
 use Rattle.dir_records.specs.IsDirectory.{HasDistinctMembers, HasForms, HasReferences, IsConsistent, IsDistinct, keys_of, numbers_spent}
 use Rattle.dir_records.specs.Marks.{account_marks, key_marks, marks_of, name_marks, number_marks, partner_marks, spent_key_marks, spent_number_marks, spn_marks, trust_marks}
@@ -187,7 +187,7 @@ entries_pass at realm h =
 abbrev spns_of : RealmRec → List (List ℕ)
 spns_of realm = flat_map (λ account. account.spns) realm.accounts
 
-pub is_distinct : (dir : DirectoryValue) → duplicate dir.spent_numbers dir.realms ≡ None → same_key dir.spent_keys dir.realms ≡ None → IsDistinct dir
+pub is_distinct : (dir : DirectoryValue) → duplicate dir.spent_numbers dir.realms ≡ None → shared_key dir.spent_keys dir.realms ≡ None → IsDistinct dir
 is_distinct dir h k =
     let found = stand_once dir h in
     let text_symm = nat_list_eq_equiv.symm in
@@ -204,7 +204,7 @@ is_distinct dir h k =
       keys = distinct same_text text_symm (spent_key_marks dir.spent_keys ++ marks_of key_marks dir.realms) _ (of_all_keys dir) k;
     }
 
-pub distinct_once : (dir : DirectoryValue) → IsDistinct dir → (duplicate dir.spent_numbers dir.realms ≡ None) × (same_key dir.spent_keys dir.realms ≡ None)
+pub distinct_once : (dir : DirectoryValue) → IsDistinct dir → (duplicate dir.spent_numbers dir.realms ≡ None) × (shared_key dir.spent_keys dir.realms ≡ None)
 distinct_once dir h =
     let text_symm = nat_list_eq_equiv.symm in
     let each = by_kind dir.spent_numbers dir.realms h.members in (
@@ -273,32 +273,34 @@ few_are_spent dir h =
     (rows_pass ((TooMany, has_few_spent dir) ∷ []) (together (nat_le (length dir.spent_keys) 100000) (nat_le (length dir.spent_numbers) 100000) keys numbers, tt))
 
 pub is_consistent : (dir : DirectoryValue) → is_well_formed dir ≡ true → IsConsistent dir
+unfolding is_well_formed
 is_consistent dir h =
     let none = from_none (first_refusal dir) h in
     let members = neither (members_refusal dir.realms) (spent_refusal dir or_else clash_refusal dir) none in
     let spent = neither (spent_refusal dir) (clash_refusal dir) members.1 in
-    let same = refused_for SameKey (same_key dir.spent_keys dir.realms) in
+    let same = refused_for SameKey (shared_key dir.spent_keys dir.realms) in
     let unknown = refused_for UnknownRef (unknown_reference dir.realms) in
     let twice = neither (refused_for Duplicate (duplicate dir.spent_numbers dir.realms)) (same or_else unknown) spent.1 in
     let keys = neither same unknown twice.1 in
     record {
       forms = has_all_forms dir members.0 spent.0;
-      distinct = is_distinct dir (not_found Duplicate (duplicate dir.spent_numbers dir.realms) twice.0) (not_found SameKey (same_key dir.spent_keys dir.realms) keys.0);
+      distinct = is_distinct dir (not_found Duplicate (duplicate dir.spent_numbers dir.realms) twice.0) (not_found SameKey (shared_key dir.spent_keys dir.realms) keys.0);
       references = has_all_references dir (not_found UnknownRef (unknown_reference dir.realms) keys.1);
     }
 
 pub consistent_passes : (dir : DirectoryValue) → IsConsistent dir → is_well_formed dir ≡ true
+unfolding is_well_formed
 consistent_passes dir h =
     let once = distinct_once dir h.distinct in
     let forms = h.forms in
     let passed = realms_are_passed dir.realms (record { some = forms.some_realms; few = forms.few_realms; each = forms.realms; accounts = forms.few_accounts }) in
-    let same = refused_for SameKey (same_key dir.spent_keys dir.realms) in
+    let same = refused_for SameKey (shared_key dir.spent_keys dir.realms) in
     let unknown = refused_for UnknownRef (unknown_reference dir.realms) in
     ap is_none
     (both_none (members_refusal dir.realms) (spent_refusal dir or_else clash_refusal dir) passed
     (both_none (spent_refusal dir) (clash_refusal dir) (few_are_spent dir forms)
     (both_none (refused_for Duplicate (duplicate dir.spent_numbers dir.realms)) (same or_else unknown) (none_for Duplicate (duplicate dir.spent_numbers dir.realms) once.0)
-    (both_none same unknown (none_for SameKey (same_key dir.spent_keys dir.realms) once.1) (none_for UnknownRef (unknown_reference dir.realms) (none_unknown dir h.references))))))
+    (both_none same unknown (none_for SameKey (shared_key dir.spent_keys dir.realms) once.1) (none_for UnknownRef (unknown_reference dir.realms) (none_unknown dir h.references))))))
 
 -- what a change makes is consistent, where nothing that it may break fails
 pub kept_consistent : (dir : DirectoryValue) → first_failing (kept_rows dir) ≡ None → IsConsistent dir
@@ -308,6 +310,6 @@ kept_consistent dir h =
     let spent = not_refused Whole (first_failing ((TooMany, has_few_spent dir) ∷ [])) (rows_pass ((TooMany, has_few_spent dir) ∷ []) (limits.1, tt)) in
     record {
       forms = has_all_forms dir (from_none (members_refusal dir.realms) limits.0) spent;
-      distinct = is_distinct dir (from_none (duplicate dir.spent_numbers dir.realms) rows.1.0) (from_none (same_key dir.spent_keys dir.realms) rows.1.1.0);
+      distinct = is_distinct dir (from_none (duplicate dir.spent_numbers dir.realms) rows.1.0) (from_none (shared_key dir.spent_keys dir.realms) rows.1.1.0);
       references = has_all_references dir (from_none (unknown_reference dir.realms) rows.0);
     }

@@ -3,7 +3,7 @@ use Rattle.std.specs.Prelude.{ℕ, ◌<◌, ◌^◌, ◌&&◌, Bool, true, nat_l
 use Rattle.krb_names.specs.Pieces.{is_name}
 use Rattle.dir_records.specs.declared.change.Change.{Change}
 use Rattle.dir_records.specs.declared.change.Change.TheVariants.{AddAccount, RemoveAccount, SetMark, SetKey, AddSpn, RemoveSpn, AddClassic, RemoveClassic, AddResource, RemoveResource, AddGroup, RemoveGroup, SetLife, AddReach, RemoveReach}
-use Rattle.dir_records.specs.Forms.{is_account_name, is_key, is_positive, is_service}
+use Rattle.dir_records.specs.Forms.{is_account_name, is_key, is_positive, is_service_name}
 use Rattle.dir_records.specs.IsDirectory.{IsKeyInRange, IsSidInRange, IsText}
 
 -- the name of the realm that is changed
@@ -25,22 +25,22 @@ realm_of (AddReach realm partner reach) = realm
 realm_of (RemoveReach realm partner reach) = realm
 
 -- the name of the account that is changed: one that is there, so a new one is none
-abbrev pub account_of : Change → Option (List ℕ)
-account_of (AddAccount realm name number key) = None
-account_of (RemoveAccount realm name) = Some name
-account_of (SetMark realm name mark on) = Some name
-account_of (SetKey realm name key) = Some name
-account_of (AddSpn realm name spn) = Some name
-account_of (RemoveSpn realm name spn) = Some name
-account_of (AddClassic realm name spn) = Some name
-account_of (RemoveClassic realm name spn) = Some name
-account_of (AddResource realm name sid) = Some name
-account_of (RemoveResource realm name sid) = Some name
-account_of (AddGroup realm name number) = Some name
-account_of (RemoveGroup realm name number) = Some name
-account_of (SetLife realm life) = None
-account_of (AddReach realm partner reach) = None
-account_of (RemoveReach realm partner reach) = None
+abbrev pub named_account : Change → Option (List ℕ)
+named_account (AddAccount realm name number key) = None
+named_account (RemoveAccount realm name) = Some name
+named_account (SetMark realm name mark on) = Some name
+named_account (SetKey realm name key) = Some name
+named_account (AddSpn realm name spn) = Some name
+named_account (RemoveSpn realm name spn) = Some name
+named_account (AddClassic realm name spn) = Some name
+named_account (RemoveClassic realm name spn) = Some name
+named_account (AddResource realm name sid) = Some name
+named_account (RemoveResource realm name sid) = Some name
+named_account (AddGroup realm name number) = Some name
+named_account (RemoveGroup realm name number) = Some name
+named_account (SetLife realm life) = None
+named_account (AddReach realm partner reach) = None
+named_account (RemoveReach realm partner reach) = None
 
 -- the partner of the trust that is changed
 abbrev pub partner_of : Change → Option (List ℕ)
@@ -57,10 +57,10 @@ passes test (Some x) = test x
 abbrev pub has_value_forms : Change → Bool
 has_value_forms (AddAccount realm name number key) = is_account_name name && is_positive number && is_key key
 has_value_forms (SetKey realm name key) = is_key key
-has_value_forms (AddSpn realm name spn) = is_service spn
-has_value_forms (RemoveSpn realm name spn) = is_service spn
-has_value_forms (AddClassic realm name spn) = is_service spn
-has_value_forms (RemoveClassic realm name spn) = is_service spn
+has_value_forms (AddSpn realm name spn) = is_service_name spn
+has_value_forms (RemoveSpn realm name spn) = is_service_name spn
+has_value_forms (AddClassic realm name spn) = is_service_name spn
+has_value_forms (RemoveClassic realm name spn) = is_service_name spn
 has_value_forms (SetLife realm life) = nat_lt 0 life && nat_le life 31536000
 has_value_forms (AddReach realm partner reach) = is_name reach
 has_value_forms (RemoveReach realm partner reach) = is_name reach
@@ -70,7 +70,7 @@ has_value_forms _ = true
 abbrev pub has_forms : Change → Bool
 has_forms change =
     is_name (realm_of change)
-    && passes is_account_name (account_of change)
+    && passes is_account_name (named_account change)
     && passes is_name (partner_of change)
     && has_value_forms change
 

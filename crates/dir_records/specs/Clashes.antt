@@ -96,8 +96,8 @@ duplicate spent realms =
     or_earlier in_realms entry_repeat 0 realms
 
 -- the first place at which a key stands again, the spent ones included
-abbrev pub same_key : List KeyRec → List RealmRec → Option DirPlace
-same_key spent realms = first_repeat same_text (spent_key_marks spent ++ marks_of key_marks realms)
+abbrev pub shared_key : List KeyRec → List RealmRec → Option DirPlace
+shared_key spent realms = first_repeat same_text (spent_key_marks spent ++ marks_of key_marks realms)
 
 -- the name is that of a realm other than this one
 abbrev pub is_other_realm : List RealmRec → RealmRec → List ℕ → Bool

@@ -20,5 +20,5 @@ abbrev pub is_account_name : List ℕ → Bool
 is_account_name name = is_name name && not (same_text name (codes "krbtgt"))
 
 -- two or three name texts joined by `/`, and not one of the ticket-granting service
-abbrev pub is_service : List ℕ → Bool
-is_service spn = is_ok (spn_reading spn) && not (starts_with nat_eq spn (codes "krbtgt/"))
+abbrev pub is_service_name : List ℕ → Bool
+is_service_name spn = is_ok (spn_reading spn) && not (starts_with nat_eq spn (codes "krbtgt/"))

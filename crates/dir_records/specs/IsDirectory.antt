@@ -15,7 +15,7 @@ use Rattle.dir_records.specs.declared.records.SpentNumber.{SpentNumber}
 use Rattle.dir_records.specs.declared.records.Trust.{Trust}
 use Rattle.dir_records.specs.Clashes.{has_distinct_entries, has_references, overlaps}
 use Rattle.dir_records.specs.DirectoryValue.{DirectoryValue}
-use Rattle.dir_records.specs.Forms.{is_account_name, is_key, is_positive, is_service}
+use Rattle.dir_records.specs.Forms.{is_account_name, is_key, is_positive, is_service_name}
 
 -- the forms and limits of an account
 pub record IsAccount (account : Account) : Type 0 where
@@ -23,9 +23,9 @@ pub record IsAccount (account : Account) : Type 0 where
   pub number : is_positive account.number ≡ true
   pub key : is_key account.key ≡ true
   pub salt : length account.salt ≤ 1024
-  pub spns : list_all is_service account.spns ≡ true
+  pub spns : list_all is_service_name account.spns ≡ true
   pub few_spns : length account.spns ≤ 32
-  pub classic : list_all is_service account.classic ≡ true
+  pub classic : list_all is_service_name account.classic ≡ true
   pub few_classic : length account.classic ≤ 256
   pub few_resource : length account.resource ≤ 256
   pub few_groups : length account.groups ≤ 128

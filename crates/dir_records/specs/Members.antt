@@ -12,7 +12,7 @@ use Rattle.dir_records.specs.declared.refusal.DirCause.TheVariants.{MissingField
 use Rattle.dir_records.specs.declared.refusal.DirPlace.{DirPlace}
 use Rattle.dir_records.specs.declared.refusal.DirPlace.TheVariants.{Whole, Realm, Account as AtAccount, Trust as AtTrust}
 use Rattle.dir_records.specs.declared.refusal.DirRefusal.{DirRefusal}
-use Rattle.dir_records.specs.Forms.{is_account_name, is_key, is_positive, is_service}
+use Rattle.dir_records.specs.Forms.{is_account_name, is_key, is_positive, is_service_name}
 
 -- what refuses the first item that is refused
 abbrev pub first_of : {X R : Type 0} → (X → Option R) → List X → Option R
@@ -36,9 +36,9 @@ identity_rows account =
 abbrev pub list_rows : Account → List (DirCause × Bool)
 list_rows account =
     (TooMany, nat_le (length account.spns) 32)
-    ∷ (BadField, list_all is_service account.spns)
+    ∷ (BadField, list_all is_service_name account.spns)
     ∷ (TooMany, nat_le (length account.classic) 256)
-    ∷ (BadField, list_all is_service account.classic)
+    ∷ (BadField, list_all is_service_name account.classic)
     ∷ (TooMany, nat_le (length account.resource) 256)
     ∷ (TooMany, nat_le (length account.groups) 128)
     ∷ []

@@ -7,7 +7,7 @@ use Rattle.dir_records.specs.declared.refusal.DirCause.TheVariants.{Duplicate, N
 use Rattle.dir_records.specs.declared.refusal.DirPlace.{DirPlace}
 use Rattle.dir_records.specs.declared.refusal.DirPlace.TheVariants.{Whole}
 use Rattle.dir_records.specs.declared.refusal.DirRefusal.{DirRefusal}
-use Rattle.dir_records.specs.Clashes.{duplicate, same_key, unknown_reference}
+use Rattle.dir_records.specs.Clashes.{duplicate, shared_key, unknown_reference}
 use Rattle.dir_records.specs.DirectoryValue.{DirectoryValue}
 use Rattle.dir_records.specs.Members.{members_refusal, refused_at}
 
@@ -23,7 +23,7 @@ has_few_spent dir = nat_le (length dir.spent_keys) 100000 && nat_le (length dir.
 abbrev pub clash_refusal : DirectoryValue → Option DirRefusal
 clash_refusal dir =
     refused_for Duplicate (duplicate dir.spent_numbers dir.realms)
-    or_else refused_for SameKey (same_key dir.spent_keys dir.realms)
+    or_else refused_for SameKey (shared_key dir.spent_keys dir.realms)
     or_else refused_for UnknownRef (unknown_reference dir.realms)
 
 -- the first refusal: of a member by itself, else of what clashes
@@ -33,7 +33,7 @@ first_refusal dir =
     or_else refused_at Whole (first_failing ((TooMany, has_few_spent dir) ∷ []))
     or_else clash_refusal dir
 
-abbrev pub is_well_formed : DirectoryValue → Bool
+unfoldable pub is_well_formed : DirectoryValue → Bool
 is_well_formed dir = is_none (first_refusal dir)
 
 -- the same conditions in the order in which a change tells them. After a change to a well-formed directory whose values have
@@ -42,7 +42,7 @@ abbrev pub kept_rows : DirectoryValue → List (DirCause × Bool)
 kept_rows dir =
     (UnknownRef, is_none (unknown_reference dir.realms))
     ∷ (Duplicate, is_none (duplicate dir.spent_numbers dir.realms))
-    ∷ (SameKey, is_none (same_key dir.spent_keys dir.realms))
+    ∷ (SameKey, is_none (shared_key dir.spent_keys dir.realms))
     ∷ (TooMany, is_none (members_refusal dir.realms) && has_few_spent dir)
     ∷ []
 
@@ -55,8 +55,8 @@ unless_refused None dir = Ok dir
 unless_refused (Some refusal) dir = Err refusal
 
 -- the directory of these realms, or why they make none
-abbrev pub directory_of : List RealmRec → Result DirectoryValue DirRefusal
-directory_of realms = unless_refused (first_refusal (unchanged realms)) (unchanged realms)
+abbrev pub directory_of_realms : List RealmRec → Result DirectoryValue DirRefusal
+directory_of_realms realms = unless_refused (first_refusal (unchanged realms)) (unchanged realms)
 
 -- the answer for want of memory
 abbrev pub no_memory : DirRefusal

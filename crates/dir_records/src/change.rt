@@ -1,11 +1,11 @@
 //! Changes to a directory.
 ghost use Rattle.std.specs.Prelude.{◌≡◌, IfOk};
 ghost use Rattle.std.specs.Option.{option_copied};
-ghost use Rattle.dir_records.specs.Changes.{account_of, has_forms, has_value_forms, partner_of, passes, realm_of};
+ghost use Rattle.dir_records.specs.Changes.{named_account, has_forms, has_value_forms, partner_of, passes, realm_of};
 ghost use Rattle.dir_records.specs.Forms.{is_account_name};
 ghost use Rattle.krb_names.specs.Pieces.{is_name};
 
-use crate::forms::{is_account_name, is_key, is_positive, is_service};
+use crate::forms::{is_account_name, is_key, is_positive, is_service_name};
 use crate::limits::MAX_LIFE;
 use crate::records::KeyRec;
 use krb_names::{Sid, Spn, Text, is_name_text};
@@ -87,7 +87,7 @@ impl Change {
 
     /// The name of the account that is changed: one that is there, so a new one is none.
     pub fn account(&self) -> Option<&str>
-        ensures { option_copied result ≡ account_of self.now }
+        ensures { option_copied result ≡ named_account self.now }
     {
         match self {
             Change::RemoveAccount(_, name)
@@ -130,7 +130,7 @@ impl Change {
 }
 
 fn has_account_form(change: &Change) -> bool
-    ensures { result ≡ passes is_account_name (account_of change.now) }
+    ensures { result ≡ passes is_account_name (named_account change.now) }
 {
     match change.account() {
         Some(name) => is_account_name(name),
@@ -158,7 +158,7 @@ fn has_value_forms(alloc: Global, change: &Change) -> Result<bool, AllocError>
         Change::AddSpn(_, _, spn)
         | Change::RemoveSpn(_, _, spn)
         | Change::AddClassic(_, _, spn)
-        | Change::RemoveClassic(_, _, spn) => is_service(alloc, spn.as_str()),
+        | Change::RemoveClassic(_, _, spn) => is_service_name(alloc, spn.as_str()),
         Change::SetLife(_, life) => Ok(*life > 0 && *life <= MAX_LIFE),
         Change::AddReach(_, _, reach) | Change::RemoveReach(_, _, reach) => {
             Ok(is_name_text(reach.as_str()))

@@ -4,7 +4,7 @@ ghost use Rattle.std.specs.List.{list_any};
 ghost use Rattle.kdc_prelude.specs.Distinct.{all_distinct};
 ghost use Rattle.kdc_prelude.specs.Texts.{same_text};
 ghost use Rattle.kdc_prelude.specs.Verdicts.{first_failing};
-ghost use Rattle.dir_records.specs.Clashes.{duplicate, earlier, entry_repeat, has_distinct_entries, in_realms, is_before, kind_at, number_at, overlaps, realm_at, realm_names, realm_sids, same_key};
+ghost use Rattle.dir_records.specs.Clashes.{duplicate, earlier, entry_repeat, has_distinct_entries, in_realms, is_before, kind_at, number_at, overlaps, realm_at, realm_names, realm_sids, shared_key};
 ghost use Rattle.dir_records.specs.Marks.{account_marks, key_marks, marks_of, name_marks, number_marks, partner_marks, spent_key_marks, spent_number_marks, spn_marks, trust_marks};
 ghost use Rattle.dir_records.specs.Repeats.{first_repeat};
 
@@ -44,7 +44,7 @@ pub(crate) fn find_duplicate(
 }
 
 /// The first place at which a key stands again, where these are spent.
-pub(crate) fn find_same_key(
+pub(crate) fn find_shared_key(
     alloc: Global,
     spent: &[KeyRec],
     realms: &[RealmRec],
@@ -52,7 +52,7 @@ pub(crate) fn find_same_key(
     requires few { length realms.now ≤ 64 }
     requires accounts { All (λ realm. length realm.accounts < 2 ^ 32) realms.now }
     requires trusts { All (λ realm. length realm.trusts ≤ 32) realms.now }
-    ensures { IfOk result (λ place. place ≡ same_key spent.now realms.now) }
+    ensures { IfOk result (λ place. place ≡ shared_key spent.now realms.now) }
 {
     let marks = key_marks(alloc, spent, realms)?;
     find_repeated_octets(alloc, marks.as_slice())

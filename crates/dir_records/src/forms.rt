@@ -3,7 +3,7 @@ ghost use Rattle.std.specs.Prelude.{◌≡◌, IfOk, nat_eq, codes};
 ghost use Rattle.std.specs.List.{list_all, starts_with};
 ghost use Rattle.krb_names.specs.Keys.{is_padded};
 ghost use Rattle.krb_names.specs.Pieces.{is_name};
-ghost use Rattle.dir_records.specs.Forms.{is_account_name, is_key, is_positive, is_service};
+ghost use Rattle.dir_records.specs.Forms.{is_account_name, is_key, is_positive, is_service_name};
 
 use crate::records::KeyRec;
 use krb_names::{Etype, Key, NameRefusal, Text, is_name_text, parse_spn};
@@ -41,10 +41,10 @@ fn is_padded(key: &Key) -> bool
 
 /// Whether all these texts are names of services that an account may have.
 pub(crate) fn are_services(alloc: Global, spns: &[Text]) -> Result<bool, AllocError>
-    ensures { IfOk result (λ test. test ≡ list_all is_service spns.now) }
+    ensures { IfOk result (λ test. test ≡ list_all is_service_name spns.now) }
 {
     for spn in spns {
-        if !is_service(alloc, spn.as_str())? {
+        if !is_service_name(alloc, spn.as_str())? {
             return Ok(false);
         }
     }
@@ -53,8 +53,8 @@ pub(crate) fn are_services(alloc: Global, spns: &[Text]) -> Result<bool, AllocEr
 
 /// Whether a text is the name of a service that an account may have: two or three name texts joined by `/`, the first
 /// not `krbtgt`.
-pub fn is_service(alloc: Global, spn: &str) -> Result<bool, AllocError>
-    ensures { IfOk result (λ test. test ≡ is_service spn.now) }
+pub fn is_service_name(alloc: Global, spn: &str) -> Result<bool, AllocError>
+    ensures { IfOk result (λ test. test ≡ is_service_name spn.now) }
 {
     match parse_spn(alloc, spn) {
         Ok(_) => Ok(!begins_with_krbtgt(spn)),

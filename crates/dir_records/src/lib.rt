@@ -20,7 +20,7 @@ mod well_formed;
 
 pub use change::{Change, Mark};
 pub use entry::{Entry, are_distinct, is_among};
-pub use forms::{is_account_name, is_service};
+pub use forms::{is_account_name, is_service_name};
 pub use laws::well_formed_where_consistent;
 pub use ranges::{InRange, keep_ranges};
 pub use records::{Account, Accounts, Contents, KeyRec, RealmRec, SpentNumber, Trust, Trusts};

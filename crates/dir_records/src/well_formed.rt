@@ -3,7 +3,7 @@ ghost use Rattle.std.specs.Prelude.{◌≡◌, ◌<◌, ◌≤◌, ◌^◌, All,
 ghost use Rattle.kdc_prelude.specs.Verdicts.{first_failing};
 ghost use Rattle.dir_records.specs.WellFormed.{clash_refusal, first_refusal, has_few_spent, is_well_formed, kept_rows, refused_for};
 
-use crate::duplicates::{find_duplicate, find_same_key};
+use crate::duplicates::{find_duplicate, find_shared_key};
 use crate::limits::MAX_SPENT;
 use crate::members::find_member_refusal;
 use crate::records::Contents;
@@ -26,6 +26,7 @@ pub fn find_refusal(alloc: Global, contents: &Contents) -> Result<Option<DirRefu
 }
 
 /// The first reason for which contents make no directory after a change to one.
+#[tactic(auto, unfolding(crate::specs::WellFormed::is_well_formed))]
 pub fn find_change_cause(alloc: Global, contents: &Contents) -> Result<Option<DirCause>, AllocError>
     requires few { length contents.now.realms ≤ 64 }
     requires accounts { All (λ realm. length realm.accounts < 2 ^ 32) contents.now.realms }
@@ -40,7 +41,7 @@ pub fn find_change_cause(alloc: Global, contents: &Contents) -> Result<Option<Di
     if find_duplicate(alloc, contents.spent_numbers.as_slice(), realms)?.is_some() {
         return Ok(Some(DirCause::Duplicate));
     }
-    if find_same_key(alloc, contents.spent_keys.as_slice(), realms)?.is_some() {
+    if find_shared_key(alloc, contents.spent_keys.as_slice(), realms)?.is_some() {
         return Ok(Some(DirCause::SameKey));
     }
     if find_member_refusal(alloc, realms)?.is_some() || !has_few_spent(contents) {
@@ -67,7 +68,7 @@ fn find_clash(alloc: Global, contents: &Contents) -> Result<Option<DirRefusal>, 
     if let Some(place) = find_duplicate(alloc, contents.spent_numbers.as_slice(), realms)? {
         return Ok(refused_for(DirCause::Duplicate, Some(place)));
     }
-    if let Some(place) = find_same_key(alloc, contents.spent_keys.as_slice(), realms)? {
+    if let Some(place) = find_shared_key(alloc, contents.spent_keys.as_slice(), realms)? {
         return Ok(refused_for(DirCause::SameKey, Some(place)));
     }
     Ok(refused_for(DirCause::UnknownRef, find_unknown_reference(realms)))

@@ -38,8 +38,8 @@ rights_of place d = do
   Ok (record { classic = classic; resource = resource; groups = groups })
 
 -- an account of the realm with this name; its default salt is the realm's name and its own (RFC 4120, section 4)
-unfoldable pub account_of : List ℕ → DirPlace → Data → Result Account DirRefusal
-account_of realm place value = do
+unfoldable pub account_reading : List ℕ → DirPlace → Data → Result Account DirRefusal
+account_reading realm place value = do
   d ← passing place is_object value
   name ← required place (get (codes "name") d) >>= account_name_of place
   id ← required place (get (codes "number") d) >>= number_of place 1 4294967295
@@ -68,6 +68,6 @@ account_of realm place value = do
 abbrev pub accounts_of : List ℕ → ℕ → ℕ → Items → Result (List Account) DirRefusal
 accounts_of realm i n no_items = Ok []
 accounts_of realm i n (item d ds) = do
-  account ← account_of realm (AccountPlace i n) d
+  account ← account_reading realm (AccountPlace i n) d
   accounts ← accounts_of realm i (n + 1) ds
   Ok (account ∷ accounts)

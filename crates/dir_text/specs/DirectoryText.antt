@@ -6,7 +6,7 @@ use Rattle.serde_json.specs.Data.{Data, Items, no_items, item}
 use Rattle.serde_json.specs.Find.{get}
 use Rattle.serde_json.specs.Read.{read}
 use Rattle.dir_records.specs.DirectoryValue.{DirectoryValue}
-use Rattle.dir_records.specs.WellFormed.{directory_of as directory_with}
+use Rattle.dir_records.specs.WellFormed.{directory_of_realms}
 use Rattle.dir_records.specs.declared.records.RealmRec.{RealmRec}
 use Rattle.dir_records.specs.declared.refusal.DirCause.TheVariants.{NotJson, MissingField, TooMany}
 use Rattle.dir_records.specs.declared.refusal.DirPlace.TheVariants.{Whole}
@@ -42,4 +42,4 @@ value_of text = if nat_lt 16777216 (length text) then refused TooMany Whole else
 
 -- the directory of a text, or the first fault: of the text, of members, of what the realms are together
 abbrev pub directory_of : List ℕ → Result DirectoryValue DirRefusal
-directory_of text = value_of text >>= realms_in >>= directory_with
+directory_of text = value_of text >>= realms_in >>= directory_of_realms

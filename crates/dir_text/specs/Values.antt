@@ -7,7 +7,7 @@ use Rattle.krb_names.specs.Pieces.{is_name}
 use Rattle.krb_names.specs.SidTexts.{sid_reading}
 use Rattle.krb_names.specs.SidValue.{SidValue}
 use Rattle.krb_names.specs.declared.refusal.NameRefusal.{NameRefusal}
-use Rattle.dir_records.specs.Forms.{is_account_name, is_service}
+use Rattle.dir_records.specs.Forms.{is_account_name, is_service_name}
 use Rattle.dir_records.specs.declared.refusal.DirPlace.{DirPlace}
 use Rattle.dir_records.specs.declared.refusal.DirRefusal.{DirRefusal}
 use Rattle.dir_text.specs.Members.{or_bad, passing, required}
@@ -33,7 +33,7 @@ unfoldable pub realm_name_of : DirPlace → Data → Result (List ℕ) DirRefusa
 realm_name_of place d = text_of place d >>= passing place is_name
 
 unfoldable pub spn_of : DirPlace → Data → Result (List ℕ) DirRefusal
-spn_of place d = text_of place d >>= passing place is_service
+spn_of place d = text_of place d >>= passing place is_service_name
 
 -- at most 1,024 bytes
 unfoldable pub salt_of : DirPlace → Data → Result (List ℕ) DirRefusal

@@ -1,7 +1,7 @@
 //! ACCOUNT: an account of a realm.
 ghost use Rattle.std.specs.Prelude.{◌≡◌, ◌≤◌, ◌++◌, length, option_map, IfOk};
 ghost use Rattle.serde_json.specs.View.{items_view, view};
-ghost use Rattle.dir_text.specs.AccountText.{account_of, accounts_of, marks_of, rights_of};
+ghost use Rattle.dir_text.specs.AccountText.{account_reading, accounts_of, marks_of, rights_of};
 ghost use Rattle.dir_text.specs.Gives.{Gives};
 ghost use Rattle.dir_text.specs.Members.{optional};
 ghost use Rattle.dir_text.specs.Values.{salt_of};
@@ -48,14 +48,14 @@ struct Rights {
 }
 
 /// Reads an account of the realm with this name.
-#[tactic(auto, unfolding(crate::specs::AccountText::account_of))]
-fn account_of(
+#[tactic(auto, unfolding(crate::specs::AccountText::account_reading))]
+fn account_reading(
     alloc: Global,
     realm: &str,
     place: DirPlace,
     value: &Value,
 ) -> Result<Account, DirRefusal>
-    ensures { Gives result (account_of realm.now place (view value.now)) }
+    ensures { Gives result (account_reading realm.now place (view value.now)) }
 {
     check_object(place, value)?;
     let name = account_name_of(alloc, place, required(place, value.get("name"))?)?;
@@ -152,7 +152,7 @@ pub(crate) fn accounts_of(
     let mut accounts = Items::new(alloc);
     let mut n = 1;
     for value in values {
-        accounts.push(account_of(alloc, realm, DirPlace::Account(i, n), value)?)?;
+        accounts.push(account_reading(alloc, realm, DirPlace::Account(i, n), value)?)?;
         n += 1;
     }
     Ok(accounts)

@@ -7,8 +7,6 @@ mod lists;
 mod members;
 mod read;
 mod realm;
-#[cfg(test)]
-mod tests;
 mod trust;
 mod values;
 

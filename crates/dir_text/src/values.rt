@@ -4,11 +4,11 @@ ghost use Rattle.serde_json.specs.View.{view};
 ghost use Rattle.dir_text.specs.Gives.{Gives};
 ghost use Rattle.dir_text.specs.Members.{optional, passing};
 ghost use Rattle.krb_names.specs.Pieces.{is_name};
-ghost use Rattle.dir_records.specs.Forms.{is_service};
+ghost use Rattle.dir_records.specs.Forms.{is_service_name};
 ghost use Rattle.dir_text.specs.Values.{account_name_of, flag_of, number_of, realm_name_of, realm_sid_of, salt_of, sid_of, spn_of, text_of};
 
 use crate::members::bad_field;
-use dir_core::{DirPlace, DirRefusal, is_account_name, is_service};
+use dir_core::{DirPlace, DirRefusal, is_account_name, is_service_name};
 use krb_names::{NameRefusal, Realm, Sid, Text, is_name_text, parse_realm, parse_sid};
 use serde_json::Value;
 use std::alloc::{AllocError, Global};
@@ -87,9 +87,9 @@ pub(crate) fn spn_of(alloc: Global, place: DirPlace, value: &Value) -> Result<Te
 }
 
 fn service_of(alloc: Global, place: DirPlace, spn: &str) -> Result<Text, DirRefusal>
-    ensures { Gives result (passing place is_service spn.now) }
+    ensures { Gives result (passing place is_service_name spn.now) }
 {
-    if is_service(alloc, spn)? {
+    if is_service_name(alloc, spn)? {
         Ok(Text::copy(alloc, spn)?)
     } else {
         Err(bad_field(place))

@@ -23,8 +23,6 @@ mod steady;
 mod steady_changes;
 mod steady_door;
 mod steady_entropy;
-#[cfg(test)]
-mod tests;
 mod whole;
 
 pub use changes::Changes;

@@ -123,5 +123,5 @@ fn client(alloc: Global) -> Option<Items<u8>> {
     if to_utf16le(alloc, name.as_str()).ok()?.len() > 100 {
         return None;
     }
-    ClientInfo { time: TIME, name }.write(alloc).ok()
+    ClientInfo { time: TIME, name }.write().ok()
 }

@@ -100,7 +100,7 @@ pub enum Rule {
     S7,
     /// There is exactly one additional ticket (MS-SFU, "KDC Receives S4U2proxy KRB_TGS_REQ").
     P1,
-    /// The additional ticket of a requestor of this realm is for the requestor's account, that of a requestor of another realm is a cross-realm ticket into this realm (MS-SFU, "KDC Receives S4U2proxy KRB_TGS_REQ").
+    /// The additional ticket of a requestor of this realm was issued by this realm, and its name gives the requestor's account; that of a requestor of another realm is a cross-realm ticket into this realm (MS-SFU, "KDC Receives S4U2proxy KRB_TGS_REQ").
     P2,
     /// The additional ticket's kvno is absent or the key's version, and its etype is the key's (RFC 4120, section 3.2.3).
     P3,
@@ -118,7 +118,7 @@ pub enum Rule {
     P9,
     /// It is forwardable, or its user may be delegated (MS-SFU, "KDC Receives S4U2proxy KRB_TGS_REQ").
     P10,
-    /// The target is an account of this realm with an SPN of the requestor's list, and the evidence is forwardable; or it is one of this realm whose list has the requestor, the request asks for resource-based delegation, and the user may be delegated; or it is of another realm, the request asks for resource-based delegation, and the user may be delegated (MS-SFU, "KDC Receives S4U2proxy KRB_TGS_REQ").
+    /// The target resolves to an account, and one of these holds. Classic: the requestor and the target are of this realm, the evidence is forwardable, and the target's account holds an SPN of the requestor's list. Resource-based: the target is of this realm, the option is set, the user is not marked, and the header's subject SID is in the target's list. Referral: the target is of another realm, the option is set, and the user is not marked (MS-SFU, "KDC Receives S4U2proxy KRB_TGS_REQ").
     P11,
     /// The delegation of a local requestor's ticket has fewer than 32 services (own choice).
     P12,

@@ -11,6 +11,7 @@ use Rattle.der_forms.specs.Fields.{sequence}
 use Rattle.der_forms.specs.KeptLaws.{kept_lawful}
 use Rattle.der_forms.specs.KeyLaws.{key_lawful}
 use Rattle.der_forms.specs.Laws.{AreFields}
+use Rattle.der_forms.specs.Lists.{sequence_of}
 use Rattle.der_forms.specs.ListLaws.{sequence_of_lawful}
 use Rattle.der_forms.specs.NameLaws.{realm_lawful}
 use Rattle.der_forms.specs.TimeLaws.{kerberos_time_lawful, moment_time_lawful, time_again}
@@ -41,6 +42,9 @@ pa_data_fields = made_lawful pa_data_form.parts _ _ (λ x fits. refl) (
 pub pa_data_lawful : IsCodec pa_data_form.pa_data
 pa_data_lawful = sequence_lawful pa_data_form.fields pa_data_fields
 
+pub pa_items_lawful : IsCodec (sequence_of pa_data_form.pa_data)
+pa_items_lawful = sequence_of_lawful _ pa_data_lawful
+
 pub checksum_fields : AreFields checksum_form.fields
 checksum_fields = made_lawful checksum_form.parts _ _ (λ x fits. refl) (
     field_lawful 0 _ _ int32_lawful (
@@ -68,6 +72,9 @@ etype_info2_entry_fields = made_lawful entry_form.parts _ _ (λ x fits. refl) (
 
 pub etype_info2_entry_lawful : IsCodec entry_form.etype_info2_entry
 etype_info2_entry_lawful = sequence_lawful entry_form.fields etype_info2_entry_fields
+
+pub etype_info2_lawful : IsCodec (sequence_of entry_form.etype_info2_entry)
+etype_info2_lawful = sequence_of_lawful _ etype_info2_entry_lawful
 
 pub pa_enc_ts_enc_fields : AreFields stamp_form.fields
 pa_enc_ts_enc_fields = made_lawful stamp_form.parts _ _ (λ x fits. λ i. (x.0, (micros_again x.1.0 i, x.1.1))) (

@@ -69,4 +69,8 @@ impl Form for ApRep {
     ghost lawful = { ap_rep_lawful };
 }
 
-impl Message for ApRep {}
+impl Message for ApRep {
+    fn allocator(&self) -> Global {
+        self.enc_part.cipher.allocator()
+    }
+}

@@ -83,4 +83,8 @@ impl Form for ApReq {
     ghost lawful = { ap_req_lawful };
 }
 
-impl Message for ApReq {}
+impl Message for ApReq {
+    fn allocator(&self) -> Global {
+        self.ticket.realm.allocator()
+    }
+}

@@ -104,4 +104,8 @@ impl Form for Authenticator {
     ghost lawful = { authenticator_lawful };
 }
 
-impl Message for Authenticator {}
+impl Message for Authenticator {
+    fn allocator(&self) -> Global {
+        self.crealm.allocator()
+    }
+}

@@ -55,4 +55,8 @@ impl Form for Checksum {
     ghost lawful = { checksum_lawful };
 }
 
-impl Message for Checksum {}
+impl Message for Checksum {
+    fn allocator(&self) -> Global {
+        self.checksum.allocator()
+    }
+}

@@ -14,7 +14,7 @@ use der_forms::{
     put_tagged, read_tagged,
 };
 use krb_names::{KTime, Key};
-use krb_tickets::Message;
+use krb_tickets::PlainMessage;
 use std::alloc::{AllocError, Global};
 
 /// What is sealed in an AP-REP.
@@ -76,4 +76,4 @@ impl Form for EncApRep {
     ghost lawful = { enc_ap_rep_lawful };
 }
 
-impl Message for EncApRep {}
+impl PlainMessage for EncApRep {}

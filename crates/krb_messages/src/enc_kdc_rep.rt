@@ -144,4 +144,8 @@ impl Form for EncKdcRep {
     ghost lawful = { enc_kdc_rep_lawful };
 }
 
-impl Message for EncKdcRep {}
+impl Message for EncKdcRep {
+    fn allocator(&self) -> Global {
+        self.srealm.allocator()
+    }
+}

@@ -13,7 +13,7 @@ use der_forms::{
     read_sequence,
 };
 use krb_names::{Bytes, Items, Text};
-use krb_tickets::Message;
+use krb_tickets::PlainMessage;
 use std::alloc::{AllocError, Global};
 
 /// An encryption type, and what makes a key of it from a password.
@@ -72,4 +72,4 @@ impl Form for EtypeInfo2Entry {
     ghost lawful = { etype_info2_entry_lawful };
 }
 
-impl Message for EtypeInfo2Entry {}
+impl PlainMessage for EtypeInfo2Entry {}

@@ -133,4 +133,8 @@ impl Form for KdcRep {
     ghost lawful = { kdc_rep_lawful };
 }
 
-impl Message for KdcRep {}
+impl Message for KdcRep {
+    fn allocator(&self) -> Global {
+        self.crealm.allocator()
+    }
+}

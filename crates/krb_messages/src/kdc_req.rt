@@ -111,7 +111,11 @@ impl Form for KdcReq {
     ghost lawful = { kdc_req_lawful };
 }
 
-impl Message for KdcReq {}
+impl Message for KdcReq {
+    fn allocator(&self) -> Global {
+        self.body_bytes.allocator()
+    }
+}
 
 /// The bytes of a request whose `body_bytes` are the one spelling of its body.
 #[tactic(auto, using(crate::specs::KdcReqLaws::own_fits, crate::specs::KdcReqLaws::own_respelt, crate::specs::KdcReqLaws::own_is))]

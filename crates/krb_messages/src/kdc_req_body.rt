@@ -133,4 +133,8 @@ fn put_numbers(to: &mut Writer, nonce: &i64, etype: &Signed) -> Result<(), Alloc
     put_field(to, 8, etype)
 }
 
-impl Message for KdcReqBody {}
+impl Message for KdcReqBody {
+    fn allocator(&self) -> Global {
+        self.realm.allocator()
+    }
+}

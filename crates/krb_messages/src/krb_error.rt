@@ -145,4 +145,8 @@ impl Form for KrbError {
     ghost lawful = { krb_error_lawful };
 }
 
-impl Message for KrbError {}
+impl Message for KrbError {
+    fn allocator(&self) -> Global {
+        self.realm.allocator()
+    }
+}

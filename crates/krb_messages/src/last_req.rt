@@ -9,7 +9,7 @@
 use der_core::{Reader, Writer};
 use der_forms::{Form, ReadFault, Sequence, field, put_field, put_sequence, read_sequence};
 use krb_names::{Items, KTime};
-use krb_tickets::Message;
+use krb_tickets::PlainMessage;
 use std::alloc::{AllocError, Global};
 
 /// A time of a kind, as that of the client's last request.
@@ -61,4 +61,4 @@ impl Form for LastReq {
     ghost lawful = { last_req_lawful };
 }
 
-impl Message for LastReq {}
+impl PlainMessage for LastReq {}

@@ -33,6 +33,3 @@ pub use last_req::{LastReq, LastReqs};
 pub use laws::messages_keep_laws;
 pub use pa_data::{PaData, PaItems};
 pub use pa_enc_ts_enc::PaEncTsEnc;
-
-#[cfg(test)]
-mod tests;

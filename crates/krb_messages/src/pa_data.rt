@@ -64,4 +64,8 @@ impl Form for PaData {
     ghost lawful = { pa_data_lawful };
 }
 
-impl Message for PaData {}
+impl Message for PaData {
+    fn allocator(&self) -> Global {
+        self.padata_value.allocator()
+    }
+}

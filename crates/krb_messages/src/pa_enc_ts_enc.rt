@@ -12,7 +12,7 @@ use der_forms::{
     put_optional, put_sequence, read_sequence,
 };
 use krb_names::KTime;
-use krb_tickets::Message;
+use krb_tickets::PlainMessage;
 use std::alloc::{AllocError, Global};
 
 /// A client's time.
@@ -66,4 +66,4 @@ impl Form for PaEncTsEnc {
     ghost lawful = { pa_enc_ts_enc_lawful };
 }
 
-impl Message for PaEncTsEnc {}
+impl PlainMessage for PaEncTsEnc {}

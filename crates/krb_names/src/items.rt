@@ -63,6 +63,11 @@ impl<T> Items<T> {
         items
     }
 
+    /// What the list takes its memory from.
+    pub fn allocator(&self) -> Global {
+        *self.items.allocator()
+    }
+
     /// The items.
     pub fn as_slice(&self) -> &[T]
         ensures { result.now ≡ self.now }

@@ -19,8 +19,6 @@ mod refusal;
 mod sid;
 mod sid_text;
 mod spn;
-#[cfg(test)]
-mod tests;
 mod text;
 mod utf16;
 

@@ -34,6 +34,11 @@ impl Realm {
         })
     }
 
+    /// What the name takes its memory from.
+    pub fn allocator(&self) -> Global {
+        self.text.allocator()
+    }
+
     /// The realm's name.
     pub fn as_str(&self) -> &str
         ensures { result.now ≡ self.now }

@@ -1,4 +1,4 @@
--- AuthorizationData ::= SEQUENCE OF SEQUENCE { ad-type [0] Int32, ad-data [1] OCTET STRING } (RFC 4120 5.2.6)
+-- AuthorizationData ::= SEQUENCE OF SEQUENCE { ad-type [0] Int32, ad-data [1] OCTET STRING } (RFC 4120, section 5.2.6)
 use Rattle.std.specs.Prelude.{ℕ, ℤ, List}
 use Rattle.der_core.specs.Codec.{Codec}
 use Rattle.der_core.specs.Forms.{int32, octets}

@@ -1,4 +1,4 @@
--- EncTicketPart ::= [APPLICATION 3] SEQUENCE (RFC 4120 5.3); renew-till and caddr are read past.
+-- EncTicketPart ::= [APPLICATION 3] SEQUENCE (RFC 4120, section 5.3); renew-till and caddr are read past.
 use Rattle.std.specs.Prelude.{ℕ, List, Option}
 use Rattle.der_core.specs.Codec.{Codec, explicit}
 use Rattle.der_forms.specs.declared.value.Flags.{Flags}

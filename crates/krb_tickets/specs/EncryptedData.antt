@@ -1,4 +1,4 @@
--- EncryptedData ::= SEQUENCE { etype [0] Int32, kvno [1] UInt32 OPTIONAL, cipher [2] OCTET STRING } (RFC 4120 5.2.9)
+-- EncryptedData ::= SEQUENCE { etype [0] Int32, kvno [1] UInt32 OPTIONAL, cipher [2] OCTET STRING } (RFC 4120, section 5.2.9)
 use Rattle.std.specs.Prelude.{ℕ, ℤ, List, Option}
 use Rattle.der_core.specs.Codec.{Codec}
 use Rattle.der_core.specs.Forms.{int32, uint32, octets}

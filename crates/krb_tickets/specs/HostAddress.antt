@@ -1,4 +1,4 @@
--- HostAddress ::= SEQUENCE { addr-type [0] Int32, address [1] OCTET STRING } (RFC 4120 5.2.5)
+-- HostAddress ::= SEQUENCE { addr-type [0] Int32, address [1] OCTET STRING } (RFC 4120, section 5.2.5)
 use Rattle.std.specs.Prelude.{ℕ, ℤ, List}
 use Rattle.der_core.specs.Codec.{Codec}
 use Rattle.der_core.specs.Forms.{int32, octets}

@@ -1,4 +1,4 @@
--- name-string [1] SEQUENCE OF KerberosString (RFC 4120 5.2.2), of 1 to 8 parts.
+-- name-string [1] SEQUENCE OF KerberosString (RFC 4120, section 5.2.2), of 1 to 8 parts.
 use Rattle.std.specs.Prelude.{◌≡◌, ℕ, ℤ, pos, negsuc, List, [], ◌∷◌, length, Bool, true, false, not, ◌&&◌, nat_eq, Result, Ok, Err, is_ok, ◌⊎◌, if◌then◌else◌}
 use Rattle.std.specs.List.{flat_map}
 use Rattle.der_core.specs.declared.refusal.DerRefusal.{DerRefusal}

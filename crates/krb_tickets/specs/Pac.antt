@@ -1,4 +1,4 @@
--- The PAC of a ticket (RFC 4120 5.2.6.1 and 7.5.4), and the ticket that the ticket signature is over (MS-PAC 2.8.3).
+-- The PAC of a ticket (RFC 4120, sections 5.2.6.1 and 7.5.4), and the ticket that the ticket signature is over (MS-PAC, section 2.8.3).
 use Rattle.std.specs.Prelude.{ℕ, ℤ, pos, negsuc, ◌^◌, List, [], ◌∷◌, length, map, Bool, false, nat_eq, nat_lt, Option, Some, None, is_some, Result, Ok, Err, if◌then◌else◌}
 use Rattle.std.specs.List.{filter, flat_map, list_any}
 use Rattle.der_core.specs.declared.refusal.DerRefusal.{DerRefusal}
@@ -12,11 +12,11 @@ abbrev pub is_number : ℕ → ℤ → Bool
 is_number n (pos k) = nat_eq k n
 is_number n (negsuc k) = false
 
--- AD-IF-RELEVANT (RFC 4120 5.2.6.1)
+-- AD-IF-RELEVANT (RFC 4120, section 5.2.6.1)
 abbrev pub is_relevant : AuthItem → Bool
 is_relevant item = is_number 1 item.kind
 
--- AD-WIN2K-PAC (RFC 4120 7.5.4)
+-- AD-WIN2K-PAC (RFC 4120, section 7.5.4)
 abbrev pub is_pac : AuthItem → Bool
 is_pac item = is_number 128 item.kind
 

@@ -1,4 +1,4 @@
--- PrincipalName ::= SEQUENCE { name-type [0] Int32, name-string [1] SEQUENCE OF KerberosString } (RFC 4120 5.2.2)
+-- PrincipalName ::= SEQUENCE { name-type [0] Int32, name-string [1] SEQUENCE OF KerberosString } (RFC 4120, section 5.2.2)
 use Rattle.std.specs.Prelude.{◌≡◌, ℕ, ℤ, List, Option, Some, None, option_map}
 use Rattle.std.proofs.Common.{refl}
 use Rattle.der_core.specs.Codec.{Codec, element_of}

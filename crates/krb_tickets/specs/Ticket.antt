@@ -1,4 +1,4 @@
--- Ticket ::= [APPLICATION 1] SEQUENCE { tkt-vno [0] INTEGER (5), realm [1] Realm, sname [2] PrincipalName, enc-part [3] EncryptedData } (RFC 4120 5.3)
+-- Ticket ::= [APPLICATION 1] SEQUENCE { tkt-vno [0] INTEGER (5), realm [1] Realm, sname [2] PrincipalName, enc-part [3] EncryptedData } (RFC 4120, section 5.3)
 use Rattle.std.specs.Prelude.{ℕ, pos, List}
 use Rattle.der_core.specs.Codec.{Codec, explicit}
 use Rattle.der_core.specs.Forms.{number_is}

@@ -1,4 +1,4 @@
--- TransitedEncoding ::= SEQUENCE { tr-type [0] Int32, contents [1] OCTET STRING } (RFC 4120 5.3), with tr-type 1, DOMAIN-X500-COMPRESS (RFC 4120 3.3.3.2); the realms stand uncompressed (own choice).
+-- TransitedEncoding ::= SEQUENCE { tr-type [0] Int32, contents [1] OCTET STRING } (RFC 4120, section 5.3), with tr-type 1, DOMAIN-X500-COMPRESS (RFC 4120, section 3.3.3.2); the realms stand uncompressed (own choice).
 use Rattle.std.specs.Prelude.{◌≡◌, ℕ, pos, List, [], ◌∷◌, length, Bool, true, ◌&&◌, nat_le, nat_eq, Result, Ok, if◌then◌else◌}
 use Rattle.std.specs.List.{list_all, slice_split, join_with_byte}
 use Rattle.std.specs.Str.{is_utf8}

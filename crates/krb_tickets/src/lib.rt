@@ -18,10 +18,7 @@ pub use enc_ticket_part::{EncTicketPart, is_same_part, part_keeps_laws, read_par
 pub use encrypted_data::EncryptedData;
 pub use fault::{Malformed, TicketFault};
 pub use host_address::HostAddress;
-pub use message::{Message, read_message};
+pub use message::{Message, PlainMessage, read_message};
 pub use pac::{pac_of, part_without_pac};
 pub use principal_name::{PrincipalName, named, put_name, put_optional_name};
 pub use ticket::{Ticket, read_ticket, ticket_keeps_laws, write_ticket};
-
-#[cfg(test)]
-mod tests;

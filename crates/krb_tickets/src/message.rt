@@ -33,8 +33,41 @@ pub fn read_message<T: Form>(alloc: Global, bytes: &[u8]) -> Result<T, TicketFau
     }
 }
 
-/// A type that is read and written whole.
+/// A type that is read and written whole, whose values hold memory.
 pub trait Message: Form {
+    /// What the value takes its memory from.
+    fn allocator(&self) -> Global;
+
+    /// The value that the bytes are, all of the bytes.
+    ///
+    /// # Errors
+    /// `Malformed` with the place of the first fault; `NoMemory`.
+    fn read(alloc: Global, bytes: &[u8]) -> Result<Self, TicketFault>
+        requires { length bytes.now < 2 ^ 32 }
+        // What is read is in the grammar.
+        ensures found { IfOk result (λ x. Self.codec.IsDer bytes.now x) }
+        // It can be written, in at most three times as many bytes.
+        ensures value { IfOk result (λ x. Self.codec.Fits x × (length (Self.codec.spelling x) ≤ 3 * length bytes.now)) }
+        // What is in the grammar is read, unless memory runs out.
+        ensures only { (x : Self) → Self.codec.IsDer bytes.now x → Answers TicketFault.NoMemory result (Ok x) }
+        // Where the first fault is.
+        ensures exact { Answers TicketFault.NoMemory result (told (whole Self.codec bytes.now)) }
+    {
+        read_message(alloc, bytes)
+    }
+
+    /// The one spelling of the value.
+    fn write(&self) -> Result<Bytes, AllocError>
+        requires fits { Self.codec.Fits self.now }
+        requires short { length (Self.codec.spelling self.now) < 2 ^ 32 }
+        ensures ok { IfOk result (λ bytes. bytes ≡ Self.codec.spelling self.now) }
+    {
+        write(self.allocator(), self)
+    }
+}
+
+/// A type that is read and written whole, whose values may hold no memory.
+pub trait PlainMessage: Form {
     /// The value that the bytes are, all of the bytes.
     ///
     /// # Errors
@@ -64,4 +97,8 @@ pub trait Message: Form {
 }
 
 /// Every list.
-impl<T: Form> Message for Items<T> {}
+impl<T: Form> Message for Items<T> {
+    fn allocator(&self) -> Global {
+        self.allocator()
+    }
+}

@@ -1,4 +1,4 @@
--- A serialized structure: its header, a pointer to it, and the structure (MS-RPCE 2.2.6).
+-- A serialized structure: its header, a pointer to it, and the structure (MS-RPCE, section 2.2.6).
 use Rattle.std.specs.Prelude.{◌≡◌, ℕ, ◌+◌, ◌-◌, ◌%◌, ◌≤◌, List, [], ◌∷◌, ◌++◌, length, take, drop, replicate, Bool, true, ◌||◌, nat_lt, nat_eq, Result, Ok, if◌then◌else◌}
 use Rattle.std.specs.Int.{w8, w16, w32, to_le_bytes}
 use Rattle.ndr_core.specs.declared.refusal.NdrCause.TheVariants.{Truncated, BadHeader, Trailing}

@@ -1,4 +1,4 @@
-//! NDR (C706 chapter 14, MS-RPCE 2.2.6): one serialized structure, read and written field by field.
+//! NDR (C706 chapter 14, MS-RPCE, section 2.2.6): one serialized structure, read and written field by field.
 #![tactic(auto)]
 
 mod fault;
@@ -12,6 +12,3 @@ pub use laws::keeps_laws;
 pub use reader::NdrReader;
 pub use refusal::{NdrCause, NdrRefusal};
 pub use writer::NdrWriter;
-
-#[cfg(test)]
-mod tests;

@@ -15,7 +15,7 @@ authority = mapped (raw 6) (λ bytes. from_be_bytes w64 (0 ∷ 0 ∷ bytes)) (λ
 abbrev pub sid_body : ℕ → Layout SidValue
 sid_body n = mapped (field authority (repeated n (number w32))) (λ p. record { authority = p.0; numbers = p.1 }) (λ s. (s.authority, s.numbers))
 
--- SID (MS-DTYP 2.4.2.2): UCHAR Revision; UCHAR SubAuthorityCount; SID_IDENTIFIER_AUTHORITY IdentifierAuthority; ULONG SubAuthority[SubAuthorityCount]
+-- SID (MS-DTYP, section 2.4.2.2): UCHAR Revision; UCHAR SubAuthorityCount; SID_IDENTIFIER_AUTHORITY IdentifierAuthority; ULONG SubAuthority[SubAuthorityCount]
 abbrev pub packed_sid : Layout SidValue
 packed_sid =
     mapped (
@@ -25,7 +25,7 @@ packed_sid =
     (λ p. p.1.1)
     (λ s. (1, (length s.numbers, s)))
 
--- RPC_SID (MS-DTYP 2.4.2.3): the same behind the count of its array, which is at most most
+-- RPC_SID (MS-DTYP, section 2.4.2.3): the same behind the count of its array, which is at most most
 abbrev pub rpc_sid : ℕ → Layout SidValue
 rpc_sid most =
     mapped (

@@ -1,4 +1,4 @@
--- RPC_UNICODE_STRING (MS-DTYP 2.3.10): USHORT Length; USHORT MaximumLength; [size_is(MaximumLength/2), length_is(Length/2)] WCHAR* Buffer.
+-- RPC_UNICODE_STRING (MS-DTYP, section 2.3.10): USHORT Length; USHORT MaximumLength; [size_is(MaximumLength/2), length_is(Length/2)] WCHAR* Buffer.
 use Rattle.std.specs.Prelude.{ℕ, not, nat_eq, List, [], length}
 use Rattle.std.specs.Int.{w16}
 use Rattle.ndr_core.specs.Layout.{Layout, field, followed, mapped, decoded, pointed}

@@ -1,4 +1,4 @@
-//! Values that several PAC structures hold (MS-DTYP 2.3.10, 2.4.2).
+//! Values that several PAC structures hold (MS-DTYP, sections 2.3.10 and 2.4.2).
 #![tactic(auto)]
 
 mod laws;

@@ -1,4 +1,4 @@
--- A PAC from its buffers (MS-PAC 2.3, 2.4): the header, the list, and the buffers behind it, each at the next multiple of 8 with zeros between.
+-- A PAC from its buffers (MS-PAC, sections 2.3 and 2.4): the header, the list, and the buffers behind it, each at the next multiple of 8 with zeros between.
 use Rattle.std.specs.Prelude.{◌≡◌, ℕ, ◌+◌, ◌<◌, ◌^◌, ℤ, List, [], ◌∷◌, ◌++◌, length, take, map, replicate, Bool, true, not, ◌||◌, nat_eq, nat_lt, Option, None, Some, option_map, if◌then◌else◌}
 use Rattle.std.specs.List.{flat_map, find, list_any, list_all}
 use Rattle.std.specs.Int.{w32, w64, to_le_bytes}

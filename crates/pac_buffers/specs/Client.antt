@@ -1,4 +1,4 @@
--- PAC_CLIENT_INFO (MS-PAC 2.7): FILETIME ClientId; USHORT NameLength; WCHAR Name[NameLength / 2].
+-- PAC_CLIENT_INFO (MS-PAC, section 2.7): FILETIME ClientId; USHORT NameLength; WCHAR Name[NameLength / 2].
 use Rattle.std.specs.Prelude.{◌+◌, ◌*◌, ◌/◌, ◌%◌, ◌^◌, length}
 use Rattle.std.specs.Int.{w16, w32}
 use Rattle.ndr_core.specs.Layout.{Layout, field, followed, mapped, decoded}

@@ -1,4 +1,4 @@
--- PACTYPE (MS-PAC 2.3): ULONG cBuffers; ULONG Version; PAC_INFO_BUFFER Buffers[cBuffers]; and the buffers behind them.
+-- PACTYPE (MS-PAC, section 2.3): ULONG cBuffers; ULONG Version; PAC_INFO_BUFFER Buffers[cBuffers]; and the buffers behind them.
 use Rattle.std.specs.Prelude.{ℕ, ◌+◌, ◌*◌, List, [], ◌∷◌, ◌++◌, length, take, drop, Bool, false, ◌||◌, ◌&&◌, nat_le, Option, None, Some, if◌then◌else◌, option_map}
 use Rattle.std.specs.List.{list_any, find}
 use Rattle.std.specs.Int.{w32, from_le_bytes}

@@ -1,4 +1,4 @@
--- S4U_DELEGATION_INFO (MS-PAC 2.9): RPC_UNICODE_STRING S4U2proxyTarget; ULONG TransitedListSize; [size_is(TransitedListSize)] PRPC_UNICODE_STRING S4UTransitedServices.
+-- S4U_DELEGATION_INFO (MS-PAC, section 2.9): RPC_UNICODE_STRING S4U2proxyTarget; ULONG TransitedListSize; [size_is(TransitedListSize)] PRPC_UNICODE_STRING S4UTransitedServices.
 use Rattle.std.specs.Prelude.{ℕ, Bool, not, nat_eq, List, [], length, map}
 use Rattle.std.specs.Int.{w32}
 use Rattle.ndr_core.specs.declared.refusal.NdrCause.TheVariants.{TooMany}

@@ -1,4 +1,4 @@
--- PAC_INFO_BUFFER (MS-PAC 2.4): ULONG ulType; ULONG cbBufferSize; ULONG64 Offset.
+-- PAC_INFO_BUFFER (MS-PAC, section 2.4): ULONG ulType; ULONG cbBufferSize; ULONG64 Offset.
 use Rattle.std.specs.Prelude.{ℕ, ◌+◌, ◌%◌, List, drop, Bool, not, ◌&&◌, nat_lt, nat_eq}
 use Rattle.std.specs.Int.{w32, w64, from_le_bytes}
 use Rattle.pac_buffers.specs.declared.info_buffer.InfoBuffer.{InfoBuffer}

@@ -1,4 +1,4 @@
--- PAC_REQUESTOR (MS-PAC 2.15): UserSid, a SID in its packed form.
+-- PAC_REQUESTOR (MS-PAC, section 2.15): UserSid, a SID in its packed form.
 use Rattle.ndr_core.specs.Layout.{Layout, mapped}
 use Rattle.ndr_values.specs.Sids.{packed_sid}
 use Rattle.pac_buffers.specs.declared.requestor.Requestor.{Requestor}

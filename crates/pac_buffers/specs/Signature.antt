@@ -1,4 +1,4 @@
--- PAC_SIGNATURE_DATA (MS-PAC 2.8): ULONG SignatureType; UCHAR Signature[12]. The types are those of RFC 3962 section 7.
+-- PAC_SIGNATURE_DATA (MS-PAC, section 2.8): ULONG SignatureType; UCHAR Signature[12]. The types are those of RFC 3962, section 7.
 use Rattle.std.specs.Prelude.{◌≡◌, ℕ, ℤ, pos, negsuc, List, ◌++◌, Result, Ok}
 use Rattle.std.specs.Int.{w32}
 use Rattle.ndr_core.specs.declared.refusal.NdrCause.TheVariants.{BadHeader}

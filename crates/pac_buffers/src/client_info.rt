@@ -1,4 +1,4 @@
-//! PAC_CLIENT_INFO (MS-PAC 2.7).
+//! PAC_CLIENT_INFO (MS-PAC, section 2.7).
 
 ghost use Rattle.std.specs.Prelude.{◌≡◌, ◌<◌, ◌≤◌, ◌^◌, length, IfOk, Ok};
 ghost use Rattle.kdc_prelude.specs.Answers.{Answers};
@@ -52,13 +52,14 @@ impl ClientInfo {
     }
 
     /// Its bytes. The name has at most 32,767 units of UTF-16.
-    pub fn write(&self, alloc: Global) -> Result<Bytes, AllocError>
+    pub fn write(&self) -> Result<Bytes, AllocError>
         requires few { length (utf16le_text self.now.name) ≤ 65534 }
         ensures ok { IfOk result (λ bytes. bytes ≡ packed_spelling client self.now) }
         // What is written is read again.
         ensures exact { IfOk result (λ bytes. packed client bytes ≡ Ok self.now) }
         ensures short { IfOk result (λ bytes. length bytes < 2 ^ 30) }
     {
+        let alloc = self.name.allocator();
         let octets = to_utf16le(alloc, self.name.as_str())?;
         let mut to = NdrWriter::packed(alloc);
         to.u32((self.time % 0x1_0000_0000) as u32)?;

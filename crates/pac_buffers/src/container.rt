@@ -1,4 +1,4 @@
-//! A PAC with room for its signatures (MS-PAC 2.3, 2.8).
+//! A PAC with room for its signatures (MS-PAC, sections 2.3 and 2.8).
 
 ghost use Rattle.std.specs.Prelude.{◌≡◌, ◌<◌, ◌≤◌, ◌+◌, ◌-◌, ◌^◌, ◌⊎◌, ◌++◌, ◌&&◌, pos, true, length, take, drop, replicate, option_map, IfOk, IfSome, if◌then◌else◌};
 ghost use Rattle.std.specs.Bool.{OnTrue, OnFalse};

@@ -1,4 +1,4 @@
-//! S4U_DELEGATION_INFO (MS-PAC 2.9).
+//! S4U_DELEGATION_INFO (MS-PAC, section 2.9).
 
 ghost use Rattle.std.specs.Prelude.{◌≡◌, ◌<◌, ◌≤◌, ◌^◌, [], length, map, not, nat_eq, IfOk, OnOk, Ok, All};
 ghost use Rattle.kdc_prelude.specs.Answers.{Answers};
@@ -170,7 +170,7 @@ impl DelegationInfo {
     }
 
     /// Its bytes. At most 32 services, and each text of at most 32,767 units of UTF-16.
-    pub fn write(&self, alloc: Global) -> Result<Bytes, AllocError>
+    pub fn write(&self) -> Result<Bytes, AllocError>
         requires target { length (utf16le_text self.now.target) ≤ 65534 }
         requires few { length self.now.services ≤ 32 }
         requires texts { All (λ t. length (utf16le_text t) ≤ 65534) self.now.services }
@@ -179,6 +179,7 @@ impl DelegationInfo {
         ensures exact { IfOk result (λ bytes. object delegation bytes ≡ Ok self.now) }
         ensures short { IfOk result (λ bytes. length bytes < 2 ^ 30) }
     {
+        let alloc = self.services.allocator();
         let mut to = NdrWriter::new(alloc)?;
         put_info(alloc, &mut to, self)?;
         Ok(Bytes::from_vec(to.finish()?))

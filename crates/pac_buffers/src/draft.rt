@@ -1,4 +1,4 @@
-//! Putting a PAC together: its list, and the buffers behind it (MS-PAC 2.3).
+//! Putting a PAC together: its list, and the buffers behind it (MS-PAC, section 2.3).
 
 ghost use Rattle.std.specs.Prelude.{◌≡◌, ℕ, ◌<◌, ◌^◌, List, [], ◌∷◌, ◌++◌, length, option_map, IfOk, OnOk};
 ghost use Rattle.std.specs.Option.{ForSome};

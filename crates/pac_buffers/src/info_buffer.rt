@@ -1,4 +1,4 @@
-//! An entry of the list of buffers, PAC_INFO_BUFFER (MS-PAC 2.4).
+//! An entry of the list of buffers, PAC_INFO_BUFFER (MS-PAC, section 2.4).
 
 ghost use Rattle.std.specs.Prelude.{◌≡◌, ◌+◌};
 ghost use Rattle.pac_buffers.specs.InfoBuffers.{info_buffer, leaves, is_misaligned, meets_list};

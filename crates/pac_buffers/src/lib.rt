@@ -1,4 +1,4 @@
-//! The buffers of a PAC (MS-PAC 2.3 to 2.9).
+//! The buffers of a PAC (MS-PAC, sections 2.3 to 2.9).
 #![tactic(auto)]
 
 mod buffer_type;
@@ -27,6 +27,3 @@ pub use refusal::PacRefusal;
 pub use requestor::Requestor;
 pub use signature_data::SignatureData;
 pub use view::PacView;
-
-#[cfg(test)]
-mod tests;

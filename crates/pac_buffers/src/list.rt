@@ -1,4 +1,4 @@
-//! Questions about a PAC's list of buffers, 16 bytes an entry (MS-PAC 2.3).
+//! Questions about a PAC's list of buffers, 16 bytes an entry (MS-PAC, section 2.3).
 
 ghost use Rattle.std.specs.Prelude.{◌≡◌, ◌/◌, ◌<◌, ◌^◌, true, false, length, option_map, MatchOption};
 ghost use Rattle.std.specs.Option.{option_copied};

@@ -1,4 +1,4 @@
-//! PAC_REQUESTOR (MS-PAC 2.15).
+//! PAC_REQUESTOR (MS-PAC, section 2.15).
 
 ghost use Rattle.std.specs.Prelude.{◌≡◌, ◌<◌, ◌≤◌, ◌^◌, length, IfOk, Ok};
 ghost use Rattle.kdc_prelude.specs.Answers.{Answers};

@@ -1,4 +1,4 @@
-//! PAC_SIGNATURE_DATA (MS-PAC 2.8).
+//! PAC_SIGNATURE_DATA (MS-PAC, section 2.8).
 
 ghost use Rattle.std.specs.Prelude.{◌≡◌, ◌<◌, ◌^◌, ◌⊎◌, pos, length, IfOk, Ok};
 ghost use Rattle.kdc_prelude.specs.Answers.{Answers};

@@ -1,4 +1,4 @@
-//! What holds of what a PAC carries (MS-PAC 2.5 to 2.9): what can be written is read again, and what was read can be
+//! What holds of what a PAC carries (MS-PAC, sections 2.5 to 2.9): what can be written is read again, and what was read can be
 //! written. These functions do nothing.
 #![tactic(auto)]
 

@@ -1,4 +1,4 @@
-//! The contents of a PAC's buffers (MS-PAC 2.5 to 2.9).
+//! The contents of a PAC's buffers (MS-PAC, sections 2.5 to 2.9).
 
 ghost use Rattle.std.specs.Prelude.{◌≡◌, ℕ, ◌<◌, ◌≤◌, ◌^◌, ◌⊎◌, ℤ, pos, Bool, List, length, Option, option_map, IfSome, Ok};
 ghost use Rattle.ndr_core.specs.Laws.{IsBytes};

@@ -1,4 +1,4 @@
--- The logon information of a PAC: KERB_VALIDATION_INFO (MS-PAC 2.5).
+-- The logon information of a PAC: KERB_VALIDATION_INFO (MS-PAC, section 2.5).
 use Rattle.std.specs.Prelude.{ℕ, ◌<◌, ◌≤◌, ◌^◌, List, length, All}
 use Rattle.std.specs.Str.{IsUtf8}
 use Rattle.ndr_core.specs.Layout.{Layout, followed, mapped}

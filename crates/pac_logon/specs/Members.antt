@@ -1,4 +1,4 @@
--- KERB_VALIDATION_INFO (MS-PAC 2.5): its members, in order. What they point to stands behind them.
+-- KERB_VALIDATION_INFO (MS-PAC, section 2.5): its members, in order. What they point to stands behind them.
 use Rattle.std.specs.Prelude.{ℕ, ◌+◌, ◌-◌, ◌*◌, ◌/◌, ◌%◌, ◌^◌, true, false, not, nat_eq, List, [], length, replicate}
 use Rattle.std.specs.Int.{w16, w32}
 use Rattle.ndr_core.specs.Layout.{Layout, field, followed, mapped}
@@ -12,7 +12,7 @@ use Rattle.pac_logon.specs.declared.members.DomainHeads.{DomainHeads}
 use Rattle.pac_logon.specs.declared.members.ExtraHeads.{ExtraHeads}
 use Rattle.pac_logon.specs.declared.members.Members.{Members}
 
--- FILETIME (MS-DTYP 2.3.3): DWORD dwLowDateTime; DWORD dwHighDateTime.
+-- FILETIME (MS-DTYP, section 2.3.3): DWORD dwLowDateTime; DWORD dwHighDateTime.
 unfoldable pub filetime : Layout ℕ
 filetime = mapped (field (number w32) (number w32)) (λ p. p.0 + p.1 * 2 ^ 32) (λ t. (t % 2 ^ 32, t / 2 ^ 32))
 

@@ -1,4 +1,4 @@
--- What the members of KERB_VALIDATION_INFO point to, in their order (MS-PAC 2.5).
+-- What the members of KERB_VALIDATION_INFO point to, in their order (MS-PAC, section 2.5).
 use Rattle.std.specs.Prelude.{ℕ, Bool, true, List, [], replicate}
 use Rattle.std.specs.Int.{w32}
 use Rattle.ndr_core.specs.Layout.{Layout, field, followed, mapped, pointed}
@@ -31,7 +31,7 @@ name_behind h =
     (λ (effective, (full, (script, (profile, (home, drive))))). effective)
     (λ name. (name, ([], ([], ([], ([], []))))))
 
--- GROUP_MEMBERSHIP (MS-PAC 2.2.2): ULONG RelativeId; ULONG Attributes. Written is that the group is mandatory, enabled and enabled by default (7).
+-- GROUP_MEMBERSHIP (MS-PAC, section 2.2.2): ULONG RelativeId; ULONG Attributes. Written is that the group is mandatory, enabled and enabled by default (7).
 unfoldable pub group : Layout ℕ
 group = mapped (field (number w32) (number w32)) (λ (relative_id, attributes). relative_id) (λ relative_id. (relative_id, 7))
 
@@ -62,7 +62,7 @@ no_sid = record { authority = 0; numbers = [] }
 unfoldable pub sid_past : Bool → Layout (Unit {0})
 sid_past there = pointed there (skipped (rpc_sid 15) no_sid) tt
 
--- KERB_SID_AND_ATTRIBUTES (MS-PAC 2.2.1): PISID Sid; ULONG Attributes.
+-- KERB_SID_AND_ATTRIBUTES (MS-PAC, section 2.2.1): PISID Sid; ULONG Attributes.
 unfoldable pub sid_pointer : Layout Bool
 sid_pointer = mapped (field pointer (number w32)) (λ (there, attributes). there) (λ there. (there, 7))
 

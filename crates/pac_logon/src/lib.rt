@@ -1,4 +1,4 @@
-//! The logon information of a PAC (MS-PAC 2.5).
+//! The logon information of a PAC (MS-PAC, section 2.5).
 #![tactic(auto)]
 
 mod extra;
@@ -9,6 +9,3 @@ mod referents;
 
 pub use laws::keeps_laws;
 pub use logon_info::{LogonInfo, Subject4, read_logon, write_logon};
-
-#[cfg(test)]
-mod tests;

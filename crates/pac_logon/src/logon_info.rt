@@ -1,4 +1,4 @@
-//! The logon information of a PAC, KERB_VALIDATION_INFO (MS-PAC 2.5).
+//! The logon information of a PAC, KERB_VALIDATION_INFO (MS-PAC, section 2.5).
 
 ghost use Rattle.std.specs.Prelude.{◌≡◌, ◌<◌, ◌≤◌, ◌^◌, length, IfOk, OnOk, Ok};
 ghost use Rattle.kdc_prelude.specs.Answers.{Answers};

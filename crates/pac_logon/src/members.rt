@@ -1,4 +1,4 @@
-//! The members of KERB_VALIDATION_INFO (MS-PAC 2.5), which stand before what they point to.
+//! The members of KERB_VALIDATION_INFO (MS-PAC, section 2.5), which stand before what they point to.
 
 ghost use Rattle.std.specs.Prelude.{◌≡◌, ◌≤◌, ◌<◌, ◌^◌, [], length, OnOk};
 ghost use Rattle.krb_names.specs.Utf16.{utf16le_text};

@@ -1,4 +1,4 @@
-//! What the members of KERB_VALIDATION_INFO point to (MS-PAC 2.5).
+//! What the members of KERB_VALIDATION_INFO point to (MS-PAC, section 2.5).
 
 ghost use Rattle.std.specs.Prelude.{◌≡◌, ◌≤◌, ◌<◌, ◌^◌, length, OnOk};
 ghost use Rattle.krb_names.specs.Utf16.{utf16le_text};

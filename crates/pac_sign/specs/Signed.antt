@@ -1,4 +1,4 @@
--- A PAC that is signed (MS-PAC 2.8.1 to 2.8.3).
+-- A PAC that is signed (MS-PAC, sections 2.8.1 to 2.8.3).
 use Rattle.std.specs.Prelude.{ℕ, List, replicate, Option, None, Some}
 use Rattle.krb_names.specs.declared.key.Key.{Key}
 use Rattle.pac_buffers.specs.Buffers.{Buffer, pac, with_sum}

@@ -1,4 +1,4 @@
--- The checksums of a PAC's signatures (MS-PAC 2.8).
+-- The checksums of a PAC's signatures (MS-PAC, section 2.8).
 use Rattle.std.specs.Prelude.{ℕ, ◌+◌, List, min, Option, None, Some, option_map}
 use Rattle.std.specs.declared.ops.Range.{Range}
 use Rattle.krb_names.specs.declared.etype.Etype.{Etype}
@@ -8,7 +8,7 @@ use Rattle.krb_crypto.specs.Checksums.{mac, zeroed}
 use Rattle.pac_buffers.specs.Container.{entry_of}
 use Rattle.pac_buffers.specs.Places.{place_of}
 
--- the type of a key's checksums: hmac-sha1-96-aes128, hmac-sha1-96-aes256 (RFC 3962 7)
+-- the type of a key's checksums: hmac-sha1-96-aes128, hmac-sha1-96-aes256 (RFC 3962, section 7)
 abbrev pub sum_type : Etype → ℕ
 sum_type Aes128 = 15
 sum_type Aes256 = 16

@@ -1,4 +1,4 @@
-//! The signatures of a PAC (MS-PAC 2.8).
+//! The signatures of a PAC (MS-PAC, section 2.8).
 #![tactic(auto)]
 
 mod fault;
@@ -11,6 +11,3 @@ pub use fault::SignFault;
 pub use laws::signatures_keep_laws;
 pub use signing::sign;
 pub use verifying::verify;
-
-#[cfg(test)]
-mod tests;

@@ -1,3 +1,5 @@
+pub mod FoundOnce
 pub mod Joined
+pub mod Requestors
 pub mod ServiceNames
 pub mod Steps

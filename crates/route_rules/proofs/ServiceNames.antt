@@ -19,7 +19,7 @@ use Rattle.dir_records.specs.declared.refusal.DirCause.TheVariants.{BadField, To
 use Rattle.dir_records.specs.declared.refusal.DirPlace.{DirPlace}
 use Rattle.dir_records.specs.declared.refusal.DirPlace.TheVariants.{Whole, Realm, Account as AtAccount}
 use Rattle.dir_records.specs.DirectoryValue.{DirectoryValue}
-use Rattle.dir_records.specs.Forms.{is_service}
+use Rattle.dir_records.specs.Forms.{is_service_name}
 use Rattle.dir_records.specs.Members.{account_fault, accounts_refusal, identity_rows, list_rows, members_refusal, realm_refusal, realm_rows, realms_refusal, refused_at, trusts_refusal, whole_rows}
 use Rattle.dir_records.specs.WellFormed.{clash_refusal, first_refusal, has_few_spent, is_well_formed}
 use Rattle.dir_records.proofs.Bounds.{from_none, neither}
@@ -64,7 +64,7 @@ not_false : (a : Bool) → not a ≡ false → a ≡ true
 not_false true h = refl
 not_false false h = absurd (cc)
 
-spn_short : (spn : List ℕ) → is_service spn ≡ true → length spn ≤ 767
+spn_short : (spn : List ℕ) → is_service_name spn ≡ true → length spn ≤ 767
 spn_short spn h =
     let pieces = spn_pieces spn in
     let fits : Bool = nat_lt 1 (length pieces) && nat_lt (length pieces) 4 in
@@ -86,10 +86,10 @@ no_fault : (place : DirPlace) (fault : Option DirCause) → refused_at place fau
 no_fault place None h = refl
 no_fault place (Some cause) h = absurd (cc)
 
-are_services : (account : Account) → account_fault account ≡ None → list_all is_service account.spns ≡ true
+are_services : (account : Account) → account_fault account ≡ None → list_all is_service_name account.spns ≡ true
 are_services account h =
     second_of_six TooMany BadField TooMany BadField TooMany TooMany
-    (nat_le (length account.spns) 32) (list_all is_service account.spns) (nat_le (length account.classic) 256) (list_all is_service account.classic) (nat_le (length account.resource) 256) (nat_le (length account.groups) 128)
+    (nat_le (length account.spns) 32) (list_all is_service_name account.spns) (nat_le (length account.classic) 256) (list_all is_service_name account.classic) (nat_le (length account.resource) 256) (nat_le (length account.groups) 128)
     (neither (first_failing (identity_rows account)) (first_failing (list_rows account)) h).1
 
 other_text : (spn other : List ℕ) → 767 < length spn → length other ≤ 767 → same_text spn other ≡ false
@@ -105,10 +105,10 @@ both_false : (a b : Bool) → a ≡ false → b ≡ false → (a || b) ≡ false
 both_false true b h k = absurd (cc)
 both_false false b h k = k
 
-not_among : (spn : List ℕ) → 767 < length spn → (spns : List (List ℕ)) → list_all is_service spns ≡ true → is_one_of spns spn ≡ false
+not_among : (spn : List ℕ) → 767 < length spn → (spns : List (List ℕ)) → list_all is_service_name spns ≡ true → is_one_of spns spn ≡ false
 not_among spn long [] h = refl
 not_among spn long (other ∷ spns) h =
-    let parts = both (is_service other) (list_all is_service spns) h in
+    let parts = both (is_service_name other) (list_all is_service_name spns) h in
     both_false (same_text spn other) (is_one_of spns spn) (other_text spn other long (spn_short other parts.0)) (not_among spn long spns parts.1)
 
 found_later : (here : Bool) (first later : Option ℕ) → here ≡ false → later ≡ None → cond here first later ≡ None
@@ -134,6 +134,7 @@ no_realm spn long at others (realm ∷ realms) h i =
     ∙ no_realm spn long (at + 1) (others + length realm.accounts) realms both_none.1 (i + 1)
 
 members_none : (dir : DirectoryValue) → is_well_formed dir ≡ true → members_refusal dir.realms ≡ None
+unfolding is_well_formed
 members_none dir h =
     let spent = refused_at Whole (first_failing ((TooMany, has_few_spent dir) ∷ [])) in
     (neither (members_refusal dir.realms) (spent or_else clash_refusal dir) (from_none (first_refusal dir) h)).0

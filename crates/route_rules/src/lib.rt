@@ -6,9 +6,7 @@ mod laws;
 mod meaning;
 mod requestor;
 mod services;
-#[cfg(test)]
-mod tests;
 
 pub use aim::{resolve, resolve_account};
-pub use laws::names_keep_laws;
+pub use laws::{names_keep_laws, requestors_are_accounts};
 pub use requestor::requestor_account;

@@ -1,4 +1,4 @@
--- S4UUserID ::= SEQUENCE (MS-SFU 2.2.2); subject-certificate is read past, absent options are 0.
+-- S4UUserID ::= SEQUENCE (MS-SFU, section 2.2.2); subject-certificate is read past, absent options are 0.
 use Rattle.std.specs.Prelude.{ℕ, List, Option, Bool, nat_eq}
 use Rattle.der_core.specs.Codec.{Codec}
 use Rattle.der_core.specs.Forms.{octets}

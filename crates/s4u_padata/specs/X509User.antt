@@ -1,4 +1,4 @@
--- PA-S4U-X509-USER ::= SEQUENCE { user-id [0] S4UUserID, checksum [1] Checksum } (MS-SFU 2.2.2)
+-- PA-S4U-X509-USER ::= SEQUENCE { user-id [0] S4UUserID, checksum [1] Checksum } (MS-SFU, section 2.2.2)
 use Rattle.std.specs.Prelude.{ℕ, List}
 use Rattle.der_core.specs.Codec.{Codec}
 use Rattle.der_forms.specs.Fields.{Fields, end, field, made, sequence}

@@ -75,4 +75,8 @@ impl Form for ForUser {
     ghost lawful = { for_user_lawful };
 }
 
-impl Message for ForUser {}
+impl Message for ForUser {
+    fn allocator(&self) -> Global {
+        self.sum.allocator()
+    }
+}

@@ -15,6 +15,3 @@ pub use laws::padata_keep_laws;
 pub use pac_options::PacOptions;
 pub use user_id::UserId;
 pub use x509_user::X509User;
-
-#[cfg(test)]
-mod tests;

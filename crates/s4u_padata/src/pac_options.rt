@@ -2,7 +2,7 @@
 
 use der_core::{Reader, Writer};
 use der_forms::{Flags, Form, ReadFault, Sequence, field, put_field, put_sequence, read_sequence};
-use krb_tickets::Message;
+use krb_tickets::PlainMessage;
 use std::alloc::{AllocError, Global};
 
 /// Options of a request that concern PACs.
@@ -49,4 +49,4 @@ impl Form for PacOptions {
     ghost lawful = { pac_options_lawful };
 }
 
-impl Message for PacOptions {}
+impl PlainMessage for PacOptions {}

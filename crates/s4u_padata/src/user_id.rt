@@ -78,4 +78,8 @@ impl Form for UserId {
     ghost lawful = { user_id_lawful };
 }
 
-impl Message for UserId {}
+impl Message for UserId {
+    fn allocator(&self) -> Global {
+        self.realm.allocator()
+    }
+}

@@ -71,4 +71,8 @@ impl Form for X509User {
     ghost lawful = { x509_user_lawful };
 }
 
-impl Message for X509User {}
+impl Message for X509User {
+    fn allocator(&self) -> Global {
+        self.id_bytes.allocator()
+    }
+}

@@ -1,4 +1,4 @@
--- The ticket of a record (RFC 4120 5.3).
+-- The ticket of a record (RFC 4120, section 5.3).
 use Rattle.std.specs.Prelude.{◌≡◌, ℕ, pos, List, true, Some, FitsSigned}
 use Rattle.std.specs.Int.{w32}
 use Rattle.krb_names.specs.declared.key.Key.{Key}
@@ -14,7 +14,7 @@ use Rattle.kdc_records.specs.declared.ticket_rec.TicketRec.{TicketRec}
 use Rattle.kdc_records.specs.Parties.{version_of}
 use Rattle.ticket_parts.specs.Parts.{part}
 
--- a name that can be written in a ticket of the issuing realm, which stands in the ticket once (RFC 4120 5.2.2)
+-- a name that can be written in a ticket of the issuing realm, which stands in the ticket once (RFC 4120, section 5.2.2)
 pub record IsTicketName (issuer : List ℕ) (sname : Principal) : Type 0 where
   pub realm : is_realm issuer ≡ true
   pub same : sname.realm ≡ issuer

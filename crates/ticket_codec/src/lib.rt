@@ -20,6 +20,3 @@ pub use opening::{Opened, open_held, unseal};
 pub use presenting::{Certified, certify, present};
 pub use role::Role;
 pub use ticket_parts::record_law;
-
-#[cfg(test)]
-mod tests;

@@ -14,11 +14,11 @@ abbrev pub listed : ℕ → List (List ℕ) → List ℕ
 listed separator [] = codes "-"
 listed separator (text ∷ texts) = join_with_byte separator (text ∷ texts)
 
--- `YYYYMMDDHHMMSSZ` (RFC 4120 5.2.3)
+-- `YYYYMMDDHHMMSSZ` (RFC 4120, section 5.2.3)
 unfoldable pub time_text : ℕ → List ℕ
 time_text time = ktime_text time
 
--- the flags that are told, in this order (RFC 4120 5.3): forwardable(1), initial(9), pre-authent(10)
+-- the flags that are told, in this order (RFC 4120, section 5.3): forwardable(1), initial(9), pre-authent(10)
 abbrev pub told_flags : List (ℕ × List ℕ)
 told_flags = (1, codes "forwardable") ∷ (9, codes "initial") ∷ (10, codes "pre-authent") ∷ []
 

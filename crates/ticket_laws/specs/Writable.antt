@@ -11,7 +11,7 @@ use Rattle.krb_tickets.specs.declared.ticket.Ticket.{Ticket}
 use Rattle.krb_tickets.specs.NameString.{is_joined, is_enterprise}
 use Rattle.krb_tickets.specs.Transited.{is_realm, are_realms}
 
--- ---- names (RFC 4120 5.2.2 and 6.2)
+-- ---- names (RFC 4120, sections 5.2.2 and 6.2)
 
 -- 1 to 8 texts that may stand in a name, as a realm's may (own choice)
 abbrev pub are_texts : List (List ℕ) → Bool
@@ -27,14 +27,14 @@ is_lone_joined (part ∷ other ∷ parts) = false
 abbrev pub are_parts : ℤ → List (List ℕ) → Bool
 are_parts kind parts = are_texts parts || (is_enterprise kind && is_lone_joined parts)
 
--- ---- EncTicketPart (RFC 4120 5.3)
+-- ---- EncTicketPart (RFC 4120, section 5.3)
 
--- AuthorizationData's elements (RFC 4120 5.2.6)
+-- AuthorizationData's elements (RFC 4120, section 5.2.6)
 pub record IsWritableItem (item : AuthItem) : Type 0 where
   pub kind : FitsSigned w32 item.kind
   pub content : IsBytes item.content
 
--- times go to 9999-12-31T23:59:59 (RFC 4120 5.2.3), and zeros stand behind the octets of the key up to 32
+-- times go to 9999-12-31T23:59:59 (RFC 4120, section 5.2.3), and zeros stand behind the octets of the key up to 32
 pub record IsWritablePart (p : EncTicketPart) : Type 0 where
   pub flags : p.flags < 2 ^ 32
   pub key_length : length p.key.raw ≡ 32
@@ -49,7 +49,7 @@ pub record IsWritablePart (p : EncTicketPart) : Type 0 where
   pub end : p.end ≤ 253402300799
   pub items : AllByRecursion IsWritableItem p.items
 
--- ---- Ticket (RFC 4120 5.3)
+-- ---- Ticket (RFC 4120, section 5.3)
 
 -- the service is of the ticket's realm, which stands in it once
 pub record IsWritableTicket (t : Ticket) : Type 0 where

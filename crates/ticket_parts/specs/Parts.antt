@@ -1,4 +1,4 @@
--- What is sealed in the ticket of a record: an EncTicketPart (RFC 4120 5.3) with a signed PAC (MS-PAC 2.3 to 2.9).
+-- What is sealed in the ticket of a record: an EncTicketPart (RFC 4120, section 5.3) with a signed PAC (MS-PAC, sections 2.3 to 2.9).
 use Rattle.std.specs.Prelude.{ℕ, pos, Bool, true, false, List, [], ◌∷◌, Option, None, Some, option_map, if◌then◌else◌}
 use Rattle.krb_names.specs.declared.key.Key.{Key}
 use Rattle.krb_tickets.specs.declared.enc_ticket_part.EncTicketPart.{EncTicketPart}
@@ -70,7 +70,7 @@ bare_part t = record {
 abbrev pub part_with : List ℕ → TicketRec → EncTicketPart
 part_with bytes t = record (bare_part t) { items = only_pac bytes }
 
--- what a ticket signature is over: the part with one zero byte for its PAC (MS-PAC 2.8.3)
+-- what a ticket signature is over: the part with one zero byte for its PAC (MS-PAC, section 2.8.3)
 abbrev pub signed_part : TicketRec → Option (List ℕ)
 signed_part t = if is_service t.holder then Some (enc_ticket_part.spelling (part_with (0 ∷ []) t)) else None
 

@@ -68,7 +68,7 @@ has_names value = is_name value.logon.subject.name && is_name value.logon.subjec
 abbrev pub such_that : {X : Type 0} → (X → Bool) → X → Option X
 such_that test x = if test x then Some x else None
 
--- what a PAC says; nothing where the PAC, one of its buffers or a signature does not read (MS-PAC 2.3 to 2.9), or there are
+-- what a PAC says; nothing where the PAC, one of its buffers or a signature does not read (MS-PAC, sections 2.3 to 2.9), or there are
 -- 2^32 bytes or more (own limit)
 abbrev pub pac_reading : List ℕ → Option PacValue
 pac_reading bytes = if nat_lt (length bytes) (2 ^ 32) && is_none (pac_fault bytes) && are_signatures_in bytes then value_in bytes >>= such_that has_names else None
@@ -87,7 +87,7 @@ subject_of info = record {
 abbrev pub delegation_from : DelegationInfo → Delegation
 delegation_from d = record { target = d.target; services = d.services }
 
--- a part without starttime starts at its authtime (RFC 4120 5.3)
+-- a part without starttime starts at its authtime (RFC 4120, section 5.3)
 abbrev pub record_with : Holder → EncTicketPart → PacValue → TicketRec
 record_with holder part value = record {
   holder = holder;

@@ -9,7 +9,7 @@ use Rattle.kdc_records.specs.declared.subject.Subject.{Subject}
 use Rattle.kdc_records.specs.declared.ticket_rec.TicketRec.{TicketRec}
 use Rattle.ticket_parts.specs.Parts.{bare_part, delegation_of}
 
--- a user's SID: the domain's, which has a number, and the user's number (MS-DTYP 2.4.2)
+-- a user's SID: the domain's, which has a number, and the user's number (MS-DTYP, section 2.4.2)
 pub record IsUserSid (sid : SidValue) : Type 0 where
   pub low : sid.authority < 2 ^ 48
   pub some : 2 ≤ length sid.numbers

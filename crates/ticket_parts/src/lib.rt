@@ -13,6 +13,3 @@ pub use making::make_part;
 pub use pac_reading::read_pac;
 pub use pac_values::PacValue;
 pub use reading::{ReadRecord, read_record};
-
-#[cfg(test)]
-mod tests;

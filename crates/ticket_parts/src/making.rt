@@ -68,7 +68,7 @@ fn client_bytes(alloc: Global, rec: &TicketRec) -> Result<Bytes, AllocError>
     ensures ok { IfOk result (λ bytes. bytes ≡ packed_spelling client (client_of rec.now)) }
     ensures short { IfOk result (λ bytes. length bytes < 2 ^ 30) }
 {
-    client_of(alloc, rec)?.write(alloc)
+    client_of(alloc, rec)?.write()
 }
 
 fn delegation_bytes(
@@ -81,7 +81,7 @@ fn delegation_bytes(
 {
     match delegated {
         None => Ok(None),
-        Some(delegated) => Ok(Some(delegation_of(alloc, delegated)?.write(alloc)?)),
+        Some(delegated) => Ok(Some(delegation_of(alloc, delegated)?.write()?)),
     }
 }
 

@@ -1,4 +1,0 @@
-pub mod LongTexts
-pub mod Printing
-pub mod Readable
-pub mod Statuses

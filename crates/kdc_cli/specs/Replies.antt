@@ -1,6 +1,0 @@
--- A reply as an outcome.
-use Rattle.kdc_cli.specs.Outcomes.{Outcome}
-use Rattle.kdc_cli.specs.declared.reply.Reply.{Reply}
-
-abbrev pub outcome_of_reply : Reply → Outcome
-outcome_of_reply reply = record { status = reply.status; text = reply.text.items }

@@ -1,0 +1,5 @@
+pub mod LongTexts
+pub mod Printing
+pub mod Readable
+pub mod Served
+pub mod Statuses

@@ -1,0 +1,10 @@
+pub mod Derived
+pub mod Inputs
+pub mod Loading
+pub mod Outcomes
+pub mod Questions
+pub mod Refusals
+pub mod Replies
+pub mod Runs
+pub mod Stops
+pub mod Words

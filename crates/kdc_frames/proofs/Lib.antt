@@ -1,0 +1,5 @@
+pub mod Doors
+pub mod FrameBytes
+pub mod Histories
+pub mod Readings
+pub mod Steps

@@ -1,0 +1,9 @@
+pub mod Endings
+pub mod Known
+pub mod Long
+pub mod Requests
+pub mod Runs
+pub mod Sent
+pub mod SoFar
+pub mod Talking
+pub mod Turns

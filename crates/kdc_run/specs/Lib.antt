@@ -1,0 +1,7 @@
+pub mod Causes
+pub mod Requests
+pub mod Runs
+pub mod Settled
+pub mod Talks
+pub mod Turns
+pub mod Worlds

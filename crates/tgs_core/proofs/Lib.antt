@@ -1,0 +1,10 @@
+pub mod Askers
+pub mod ErrorForms
+pub mod FoundGrants
+pub mod Openings
+pub mod ReadRequests
+pub mod ReceivedRequests
+pub mod ReplyForms
+pub mod SoundGrants
+pub mod WrittenErrors
+pub mod WrittenReplies

@@ -1,0 +1,14 @@
+-- What holds of what requests are granted.
+use Rattle.std.specs.Prelude.{◌≡◌, ℕ, List, length, Some}
+use Rattle.der_core.specs.Laws.{IsBytes}
+use Rattle.krb_names.specs.declared.moment.Moment.{Moment}
+use Rattle.dir_records.specs.DirectoryValue.{DirectoryValue}
+use Rattle.dir_records.specs.IsDirectory.{IsDirectory}
+use Rattle.ticket_parts.specs.Sound.{IsSound}
+use Rattle.tgs_core.specs.Grants.{Grant, granted_record, grant_in}
+
+-- a ticket can be made of the record of a grant
+abbrev pub GrantsAreSound : Type 0
+GrantsAreSound =
+    (dir : DirectoryValue) (now : Moment) (bytes block : List ℕ) (grant : Grant) → IsDirectory dir → IsBytes bytes → IsBytes block → length block ≡ 64
+    → grant_in dir now bytes ≡ Some grant → IsSound (granted_record grant block)

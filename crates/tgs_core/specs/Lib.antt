@@ -1,0 +1,9 @@
+pub mod Answers
+pub mod Errors
+pub mod GrantViews
+pub mod Grants
+pub mod Laws
+pub mod Received
+pub mod Replies
+pub mod Requests
+pub mod Verdicts

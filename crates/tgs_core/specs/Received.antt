@@ -1,0 +1,17 @@
+-- What a message is known to be that was read.
+use Rattle.std.specs.Prelude.{◌≡◌, ◌<◌, ◌^◌, true, length, IfSome}
+use Rattle.std.specs.List.{AllByRecursion}
+use Rattle.krb_tickets.specs.Transited.{is_realm}
+use Rattle.krb_messages.specs.declared.kdc_req.KdcReq.{KdcReq}
+use Rattle.krb_messages.specs.KdcReq.{kdc_req}
+use Rattle.as_core.specs.AsRequests.{extra_tickets}
+use Rattle.as_core.specs.Stamps.{items_of}
+use Rattle.ticket_codec.specs.Made.{IsTicketName}
+
+-- it can be written, its realm and the server that it names have the forms of names, and what it holds is short
+pub record IsReceived (message : KdcReq) : Type 0 where
+  pub fits : kdc_req.Fits message
+  pub realm : is_realm message.req_body.realm ≡ true
+  pub server : IfSome message.req_body.sname (IsTicketName message.req_body.realm)
+  pub padata : AllByRecursion (λ item. length item.padata_value < 2 ^ 32) (items_of message.padata)
+  pub tickets : extra_tickets message.req_body.additional_tickets < 2 ^ 32

@@ -1,0 +1,18 @@
+//! The answer to a request: a ticket exactly where the rules allow one, or the first failing rule's error (RFC 4120, section 3).
+#![tactic(auto)]
+
+mod account;
+mod answered;
+mod answering;
+mod error;
+mod grant;
+mod laws;
+mod random;
+mod reply;
+mod request;
+mod rules_laws;
+
+pub use answered::{Answered, Note};
+pub use answering::{answer, answer_long};
+pub use laws::grants_keep_laws;
+pub use rules_laws::verdicts_keep_laws;

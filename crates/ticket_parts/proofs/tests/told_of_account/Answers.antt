@@ -1,7 +1,0 @@
-use Rattle.ticket_parts.proofs.tests.told_of_account.Goals as goal
-
-pub record-requires : goal.record-requires
-record-requires c = c.in_ok-delegation.ensures
-
-pub told-requires : goal.told-requires
-told-requires c = c.in_ok-rec.ensures
