@@ -16,7 +16,7 @@ use Rattle.kdc_commands.specs.declared.words.Task.TheVariants.{Ask, Explain}
 -- the task, where DIR alone follows its word
 abbrev pub over_with : List (List ℕ) → Task → Option Command
 over_with (dir ∷ []) task = Some (Print (Over task))
-over_with _ task = None
+over_with _ _ = None
 
 -- 17 or 18
 abbrev pub etype_of : List ℕ → Option Etype
@@ -82,7 +82,7 @@ command_of (word ∷ rest) =
 
 -- a key is derived with at least one round
 abbrev pub HasRounds : Job → Type 0
-HasRounds (Over task) = Unit {0}
+HasRounds (Over _) = Unit {0}
 HasRounds (Derive derivation) = 1 ≤ derivation.rounds
 
 -- and at most 1,000,000 callers are served
