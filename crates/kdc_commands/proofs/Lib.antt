@@ -1,3 +1,4 @@
+pub mod Listening
 pub mod LongTexts
 pub mod Printing
 pub mod Readable

@@ -1,5 +1,5 @@
 -- What a run prints: all of its outcome, a front of it where a fault is told, nothing where reading failed.
-use Rattle.std.proofs.Common.{◌≡◌, ℕ, List, [], ap, append-nil, refl, sym}
+use Rattle.std.proofs.Common.{◌≡◌, ℕ, List, [], append-nil, refl, sym}
 use Rattle.std.specs.Prelude.{Bool, Option, None, Some, IfSome, true, false, ◌==◌, ◌||◌}
 use Rattle.std.specs.Io.KnownBytes.{Appends}
 use Rattle.kdc_prelude.specs.Printed.{AppendsFront}

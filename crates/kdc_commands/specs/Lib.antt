@@ -1,4 +1,5 @@
 pub mod Derived
+pub mod Devices
 pub mod Inputs
 pub mod Loading
 pub mod Outcomes

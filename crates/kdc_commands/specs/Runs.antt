@@ -1,5 +1,5 @@
 -- What the program prints, and its status.
-use Rattle.std.specs.Prelude.{◌≡◌, ◌⊎◌, IfOk, IfSome, IsOk, ℕ, ◌==◌, ◌||◌, Bool, true, false, nat_lt, List, [], ◌∷◌, ◌++◌, length, codes, if◌then◌else◌, Option, None, Some, Result, Ok, Err}
+use Rattle.std.specs.Prelude.{◌≡◌, ◌⊎◌, IfSome, IsErr, IsOk, ℕ, ◌==◌, ◌||◌, Bool, true, false, nat_lt, List, [], ◌∷◌, ◌++◌, length, codes, if◌then◌else◌, Option, None, Some, Result, Ok, Err}
 use Rattle.std.specs.List.{list_any}
 use Rattle.std.specs.Io.KnownBytes.{Appends}
 use Rattle.kdc_prelude.specs.Printed.{AppendsFront}
@@ -91,16 +91,18 @@ is_serving None = false
 is_serving (Some (Print job)) = false
 is_serving (Some (Serve callers)) = true
 
--- so many callers are served over the directory of a text
-abbrev pub ServesOver : Option Command → Option (List ℕ) → (ℕ → DirectoryValue → Type 0) → Type 0
-ServesOver None text runs = Unit {0}
-ServesOver (Some (Print job)) text runs = Unit {0}
-ServesOver (Some (Serve callers)) None runs = Unit {0}
-ServesOver (Some (Serve callers)) (Some text) runs = IfOk (directory_of text) (runs callers)
+-- the directory's text, as far as it is told, is refused
+abbrev pub DirectoryRefused : Option (List ℕ) → Type 0
+DirectoryRefused text = IfSome text (λ told. IsErr (directory_of told))
 
 -- reading failed: of the directory, or of the input where the directory, as far as its text is told, is not refused
 abbrev pub ReadingFailed : Option (List ℕ) → Type 0 → Type 0 → Type 0
 ReadingFailed text dir input = dir ⊎ (input × IfSome text (λ told. IsOk (directory_of told)))
+
+-- what the fault of reading comes from: where callers are served, the directory alone
+abbrev pub FailsToRead : Bool → Option (List ℕ) → Type 0 → Type 0 → Type 0
+FailsToRead true text dir input = dir
+FailsToRead false text dir input = ReadingFailed text dir input
 
 -- no caller can be accepted: the directory, as far as its text is told, is not refused
 abbrev pub AcceptingFailed : Option (List ℕ) → Type 0 → Type 0

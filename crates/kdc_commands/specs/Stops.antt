@@ -1,5 +1,5 @@
 -- Why a command ended early, and what its status is then (own choice).
-use Rattle.std.specs.Prelude.{ℕ, ◌==◌, ◌||◌, Bool, Result, Ok, Err}
+use Rattle.std.specs.Prelude.{ℕ, Result, Ok, Err}
 use Rattle.kb_base.specs.declared.fault.DeviceFault.{DeviceFault}
 use Rattle.kb_base.specs.declared.fault.DeviceFault.TheVariants as faults
 use Rattle.kdc_run.specs.declared.served.RunFault.{RunFault}
@@ -30,7 +30,3 @@ fault_status runs.Door = 9
 abbrev pub run_status : Result Served RunFault → ℕ
 run_status (Ok served) = 0
 run_status (Err fault) = fault_status fault
-
--- the statuses that a run over callers alone has, where the directory is not refused
-abbrev pub is_run_status : ℕ → Bool
-is_run_status status = status == 0 || status == 6 || status == 7 || status == 8 || status == 9

@@ -2,8 +2,9 @@
 ghost use Rattle.std.specs.Prelude.{◌≡◌, ◌<◌, ◌^◌, Err, IfOk};
 ghost use Rattle.kb_base.specs.Faults.{HasDeviceCause};
 ghost use Rattle.kb_base.specs.Reading.{ReadsWhole};
+ghost use Rattle.kdc_frames.specs.Moves.{Moves};
 ghost use Rattle.kdc_prelude.specs.Causes.{Rose};
-ghost use Rattle.kdc_commands.specs.Inputs.{current_left, input_of};
+ghost use Rattle.kdc_commands.specs.Inputs.{Hears, InputFailed, SendsNothing, current_left, input_of};
 
 use crate::stop::Stop;
 use kb_base::{DeviceFault, Door, ReadEnd};
@@ -16,12 +17,14 @@ pub fn read_input<L: Door>(alloc: Global, door: &mut L, limit: usize) -> Result<
     ensures ok { IfOk result (λ end. ReadsWhole (input_of (L.callers door.old)) limit end) }
     ensures accept_cause { result ≡ Err Stop.Accepting → Rose (L.accept_faults door.old) (L.accept_faults door.new) }
     ensures accept_fault { L.accept_faults door.old < L.accept_faults door.new → result ≡ Err Stop.Accepting }
-    ensures cause { result ≡ Err Stop.Reading → Rose (L.faults door.old) (L.faults door.new) }
+    ensures cause { result ≡ Err Stop.Reading → InputFailed (L.callers door.old) (L.callers door.new) (Rose (L.faults door.old) (L.faults door.new)) }
+    ensures unsent { SendsNothing (L.callers door.old) (L.callers door.new) }
     ensures fault { L.faults door.old < L.faults door.new → result ≡ Err Stop.Reading }
 {
     match door.next_caller() {
         Err(_) => Err(Stop::Accepting),
-        Ok(_) => Ok(read_caller(alloc, door, limit)?),
+        Ok(false) => Ok(ReadEnd::Whole(Vec::new(alloc))),
+        Ok(true) => Ok(read_caller(alloc, door, limit)?),
     }
 }
 
@@ -29,6 +32,7 @@ pub fn read_input<L: Door>(alloc: Global, door: &mut L, limit: usize) -> Result<
 fn read_caller<L: Door>(alloc: Global, door: &mut L, limit: usize) -> Result<ReadEnd, DeviceFault>
     requires { limit < 2 ^ 40 }
     ensures ok { IfOk result (λ end. ReadsWhole (current_left (L.callers door.old)) limit end) }
+    ensures heard { Moves (Hears result) (L.callers door.old) (L.callers door.new) }
     ensures cause { HasDeviceCause (L.faults door.old) (L.faults door.new) result }
     ensures unchanged { L.accept_faults door.new ≡ L.accept_faults door.old }
 {

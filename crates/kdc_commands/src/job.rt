@@ -1,10 +1,10 @@
 //! What is done and then printed.
 ghost use Rattle.std.specs.Prelude.{◌≡◌, ◌<◌, Err, IfOk, IfSome, MatchResult, false, true};
 ghost use Rattle.kdc_prelude.specs.Causes.{Rose};
-ghost use Rattle.kdc_commands.specs.Inputs.{input_of};
+ghost use Rattle.kdc_commands.specs.Inputs.{InputFailed, SendsNothing, input_of};
 ghost use Rattle.kdc_commands.specs.Outcomes.{is_fault};
 ghost use Rattle.kdc_commands.specs.Replies.{outcome_of_reply};
-ghost use Rattle.kdc_commands.specs.Runs.{AcceptingFailed, Prints, ReadingFailed, is_job_status, job_outcome};
+ghost use Rattle.kdc_commands.specs.Runs.{AcceptingFailed, DirectoryRefused, Prints, ReadingFailed, is_job_status, job_outcome};
 ghost use Rattle.kdc_commands.specs.Stops.{status_of};
 ghost use Rattle.kdc_commands.specs.Words.{HasRounds};
 
@@ -28,7 +28,9 @@ pub fn do_job<D: Source, L: Door, O: Sink>(
     requires { IfSome job HasRounds }
     ensures answer { IfSome (job_outcome job (D.left dir.old) (input_of (L.callers door.old))) (Prints (O.held out.old) (O.held out.new) result) }
     ensures status { is_job_status job result ≡ true }
-    ensures read_fault { result ≡ 5 → ReadingFailed (D.left dir.old) (Rose (D.faults dir.old) (D.faults dir.new)) (Rose (L.faults door.old) (L.faults door.new)) }
+    ensures refused { result ≡ 4 → DirectoryRefused (D.left dir.old) }
+    ensures unsent { SendsNothing (L.callers door.old) (L.callers door.new) }
+    ensures read_fault { result ≡ 5 → ReadingFailed (D.left dir.old) (Rose (D.faults dir.old) (D.faults dir.new)) (InputFailed (L.callers door.old) (L.callers door.new) (Rose (L.faults door.old) (L.faults door.new))) }
     ensures write_fault { result ≡ 6 → Rose (O.faults out.old) (O.faults out.new) }
     ensures no_caller { result ≡ 9 → AcceptingFailed (D.left dir.old) (Rose (L.accept_faults door.old) (L.accept_faults door.new)) }
     ensures dir_fault { D.faults dir.old < D.faults dir.new → result ≡ 5 }
@@ -57,7 +59,9 @@ fn judge<D: Source, L: Door>(
     ensures answer { IfOk result (λ reply. IfSome (job_outcome job (D.left dir.old) (input_of (L.callers door.old))) (λ outcome. outcome ≡ outcome_of_reply reply)) }
     ensures status { MatchResult result (λ reply. is_job_status job reply.status ≡ true) (λ stop. is_job_status job (status_of stop) ≡ true) }
     ensures no_fault { IfOk result (λ reply. is_fault reply.status ≡ false) }
-    ensures cause { result ≡ Err Stop.Reading → ReadingFailed (D.left dir.old) (Rose (D.faults dir.old) (D.faults dir.new)) (Rose (L.faults door.old) (L.faults door.new)) }
+    ensures refused { IfOk result (λ reply. reply.status ≡ 4 → DirectoryRefused (D.left dir.old)) }
+    ensures unsent { SendsNothing (L.callers door.old) (L.callers door.new) }
+    ensures cause { result ≡ Err Stop.Reading → ReadingFailed (D.left dir.old) (Rose (D.faults dir.old) (D.faults dir.new)) (InputFailed (L.callers door.old) (L.callers door.new) (Rose (L.faults door.old) (L.faults door.new))) }
     ensures accept_cause { result ≡ Err Stop.Accepting → AcceptingFailed (D.left dir.old) (Rose (L.accept_faults door.old) (L.accept_faults door.new)) }
     ensures dir_fault { D.faults dir.old < D.faults dir.new → result ≡ Err Stop.Reading }
     ensures caller_fault { L.faults door.old < L.faults door.new → result ≡ Err Stop.Reading }

@@ -1,14 +1,9 @@
 //! The top call: all that the program does.
-ghost use Rattle.std.specs.Prelude.{Result, ◌≡◌, ◌<◌, IfSome, false, map, string_bytes, true};
+ghost use Rattle.std.specs.Prelude.{◌≡◌, ◌<◌, IfSome, false, map, string_bytes, true};
 ghost use Rattle.kdc_prelude.specs.Causes.{Rose};
-ghost use Rattle.kdc_run.specs.Runs.{RunsOver};
-ghost use Rattle.kdc_run.specs.Worlds.{Known, world};
-ghost use Rattle.kdc_run.specs.declared.served.RunFault.{RunFault};
-ghost use Rattle.kdc_run.specs.declared.served.Served.{Served};
-ghost use Rattle.kdc_commands.specs.Stops.{is_run_status, run_status};
-ghost use Rattle.dir_records.specs.DirectoryValue.{DirectoryValue};
-ghost use Rattle.kdc_commands.specs.Inputs.{input_of};
-ghost use Rattle.kdc_commands.specs.Runs.{AcceptingFailed, Prints, ReadingFailed, ServesOver, is_serving, is_status, outcome_by};
+ghost use Rattle.kdc_commands.specs.Devices.{Uses, devices};
+ghost use Rattle.kdc_commands.specs.Inputs.{InputFailed, input_of};
+ghost use Rattle.kdc_commands.specs.Runs.{AcceptingFailed, DirectoryRefused, FailsToRead, Prints, is_serving, is_status, outcome_by};
 ghost use Rattle.kdc_commands.specs.Words.{command_of};
 
 use crate::job::do_job;
@@ -22,8 +17,8 @@ use std::alloc::Global;
 /// and print notes.
 ///
 /// # Status
-/// 0: all was done. 2: bad words. 3: memory is wanted. 4: the directory is refused. 5: `dir` failed, or the caller's
-/// connection of `ask` or `explain`. 6: `out` failed. 7: `entropy` failed. 8: `changes` failed. 9: no caller can be accepted.
+/// 0: all was done. 2: bad words. 3: memory is wanted. 4: the directory is refused. 5: `dir` failed, or the connection of the
+/// caller whose bytes `ask` or `explain` reads. 6: `out` failed. 7: `entropy` failed. 8: `changes` failed. 9: no caller can be accepted.
 /// 10: the ticket is refused. 14: the input is too long.
 pub fn run_words<D: Source, G: Changes, L: Door, C: Clock, E: Entropy, O: Sink>(
     alloc: Global,
@@ -37,12 +32,13 @@ pub fn run_words<D: Source, G: Changes, L: Door, C: Clock, E: Entropy, O: Sink>(
 ) -> u8
     // The status and what is printed are those of the words, the text of the directory and the input.
     ensures answer { IfSome (outcome_by (command_of (map string_bytes words.now)) (D.left dir.old) (input_of (L.callers door.old))) (Prints (O.held out.old) (O.held out.new) result) }
-    // Where callers are served, they are served as the run over the directory of the text has it.
-    ensures served { is_run_status result ≡ true → ServesOver (command_of (map string_bytes words.now)) (D.left dir.old) (λ callers first. (outcome : Result Served RunFault) × (last : DirectoryValue) × (result ≡ run_status outcome) × Known (RunsOver callers outcome) (world (L.callers door.old) (G.batches changes.old) (C.moments clock.old) (E.blocks entropy.old) first (O.held out.old)) (world (L.callers door.new) (G.batches changes.new) (C.moments clock.new) (E.blocks entropy.new) last (O.held out.new))) }
+    // Where callers are served, they are served as the run over the directory of the text has it; else none is sent anything.
+    ensures devices { Uses (command_of (map string_bytes words.now)) (D.left dir.old) result (devices (L.callers door.old) (G.batches changes.old) (C.moments clock.old) (E.blocks entropy.old) (O.held out.old)) (devices (L.callers door.new) (G.batches changes.new) (C.moments clock.new) (E.blocks entropy.new) (O.held out.new)) }
 
     // Whatever the devices tell of their contents:
     ensures status { is_status (command_of (map string_bytes words.now)) result ≡ true }
-    ensures read_fault { result ≡ 5 → ReadingFailed (D.left dir.old) (Rose (D.faults dir.old) (D.faults dir.new)) (Rose (L.faults door.old) (L.faults door.new)) }
+    ensures refused { result ≡ 4 → DirectoryRefused (D.left dir.old) }
+    ensures read_fault { result ≡ 5 → FailsToRead (is_serving (command_of (map string_bytes words.now))) (D.left dir.old) (Rose (D.faults dir.old) (D.faults dir.new)) (InputFailed (L.callers door.old) (L.callers door.new) (Rose (L.faults door.old) (L.faults door.new))) }
     ensures write_fault { result ≡ 6 → Rose (O.faults out.old) (O.faults out.new) }
     ensures no_random { result ≡ 7 → Rose (E.faults entropy.old) (E.faults entropy.new) }
     ensures no_changes { result ≡ 8 → Rose (G.faults changes.old) (G.faults changes.new) }

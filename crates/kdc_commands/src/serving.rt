@@ -1,17 +1,12 @@
 //! Serving callers over a directory.
-ghost use Rattle.std.specs.Prelude.{Result, ◌≡◌, ◌≤◌, ◌<◌, ◌==◌, ◌||◌, IfOk, IfSome, Some, true};
-ghost use Rattle.dir_text.specs.DirectoryText.{directory_of};
+ghost use Rattle.std.specs.Prelude.{◌≡◌, ◌≢◌, ◌≤◌, ◌<◌, ◌==◌, ◌||◌, IfSome, Some, true};
 ghost use Rattle.kdc_prelude.specs.Causes.{Rose};
-ghost use Rattle.kdc_run.specs.Runs.{RunsOver};
-ghost use Rattle.kdc_run.specs.Worlds.{Known, world};
-ghost use Rattle.kdc_run.specs.declared.served.RunFault.{RunFault};
-ghost use Rattle.kdc_run.specs.declared.served.Served.{Served};
-ghost use Rattle.kdc_commands.specs.Stops.{fault_status, is_run_status, run_status};
-ghost use Rattle.kdc_commands.specs.Runs.{AcceptingFailed, Prints, is_status, refused_outcome};
-ghost use Rattle.dir_records.specs.DirectoryValue.{DirectoryValue};
-ghost use Rattle.kdc_commands.specs.declared.words.Command.TheVariants.{Serve};
+ghost use Rattle.kdc_commands.specs.Devices.{Serves, devices};
 ghost use Rattle.kdc_commands.specs.Outcomes.{one_line};
 ghost use Rattle.kdc_commands.specs.Refusals.{refusal_text};
+ghost use Rattle.kdc_commands.specs.Runs.{AcceptingFailed, DirectoryRefused, Prints, is_status, refused_outcome};
+ghost use Rattle.kdc_commands.specs.Stops.{fault_status};
+ghost use Rattle.kdc_commands.specs.declared.words.Command.TheVariants.{Serve};
 
 use crate::load::{Loaded, load};
 use crate::reply::Reply;
@@ -32,8 +27,9 @@ pub fn serve_over<D: Source, G: Changes, L: Door, C: Clock, E: Entropy, O: Sink>
     out: &mut O,
 ) -> u8
     requires { callers ≤ 1000000 }
-    ensures refused { IfSome (refused_outcome (D.left dir.old)) (Prints (O.held out.old) (O.held out.new) result) }
-    ensures served { is_run_status result ≡ true → IfSome (D.left dir.old) (λ text. IfOk (directory_of text) (λ first. (outcome : Result Served RunFault) × (last : DirectoryValue) × (result ≡ run_status outcome) × Known (RunsOver callers outcome) (world (L.callers door.old) (G.batches changes.old) (C.moments clock.old) (E.blocks entropy.old) first (O.held out.old)) (world (L.callers door.new) (G.batches changes.new) (C.moments clock.new) (E.blocks entropy.new) last (O.held out.new)))) }
+    ensures answer { IfSome (refused_outcome (D.left dir.old)) (Prints (O.held out.old) (O.held out.new) result) }
+    ensures devices { Serves callers (D.left dir.old) result (devices (L.callers door.old) (G.batches changes.old) (C.moments clock.old) (E.blocks entropy.old) (O.held out.old)) (devices (L.callers door.new) (G.batches changes.new) (C.moments clock.new) (E.blocks entropy.new) (O.held out.new)) }
+    ensures refused { result ≡ 4 → DirectoryRefused (D.left dir.old) }
     ensures status { is_status (Some (Serve callers)) result ≡ true }
     ensures read_fault { result ≡ 5 → Rose (D.faults dir.old) (D.faults dir.new) }
     ensures write_fault { result ≡ 6 → Rose (O.faults out.old) (O.faults out.new) }
@@ -78,7 +74,8 @@ fn print_refusal<O: Sink>(alloc: Global, refusal: DirRefusal, out: &mut O) -> u8
 
 /// The program's status after a fault of a run over callers.
 fn fault_status(fault: RunFault) -> u8
-    ensures { result ≡ fault_status fault }
+    ensures value { result ≡ fault_status fault }
+    ensures not_refused { result ≢ 4 }
 {
     match fault {
         RunFault::NoMemory => 3,

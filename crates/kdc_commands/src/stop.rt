@@ -23,6 +23,7 @@ impl Stop {
         ensures value { result ≡ status_of self }
         ensures fault { is_fault result ≡ true }
         ensures not_writing { result ≢ 6 }
+        ensures not_refused { result ≢ 4 }
     {
         match self {
             Stop::NoMemory => 3,

@@ -1,10 +1,10 @@
 //! What is done over a directory, and its outcome.
-ghost use Rattle.std.specs.Prelude.{◌≡◌, ◌<◌, ◌≤◌, Err, IfOk, IfErr, IfSome, length, true, false};
+ghost use Rattle.std.specs.Prelude.{◌≡◌, ◌≢◌, ◌<◌, ◌≤◌, Err, IfOk, IfErr, IfSome, length, true, false};
 ghost use Rattle.kdc_prelude.specs.Causes.{Rose};
-ghost use Rattle.kdc_commands.specs.Inputs.{input_of};
+ghost use Rattle.kdc_commands.specs.Inputs.{InputFailed, SendsNothing, input_of};
 ghost use Rattle.kdc_commands.specs.Outcomes.{is_fault};
 ghost use Rattle.kdc_commands.specs.Replies.{outcome_of_reply};
-ghost use Rattle.kdc_commands.specs.Runs.{AcceptingFailed, ReadingFailed, is_task_status, outcome_over, with_input, with_task};
+ghost use Rattle.kdc_commands.specs.Runs.{AcceptingFailed, DirectoryRefused, ReadingFailed, is_task_status, outcome_over, with_input, with_task};
 
 use crate::ask::answers;
 use crate::input::read_input;
@@ -30,7 +30,9 @@ pub fn do_task<D: Source, L: Door>(
     ensures answer { IfOk result (λ reply. IfSome (outcome_over task (D.left dir.old) (input_of (L.callers door.old))) (λ outcome. outcome ≡ outcome_of_reply reply)) }
     ensures status { IfOk result (λ reply. is_task_status task reply.status ≡ true) }
     ensures no_fault { IfOk result (λ reply. is_fault reply.status ≡ false) }
-    ensures cause { result ≡ Err Stop.Reading → ReadingFailed (D.left dir.old) (Rose (D.faults dir.old) (D.faults dir.new)) (Rose (L.faults door.old) (L.faults door.new)) }
+    ensures refused { IfOk result (λ reply. reply.status ≡ 4 → DirectoryRefused (D.left dir.old)) }
+    ensures unsent { SendsNothing (L.callers door.old) (L.callers door.new) }
+    ensures cause { result ≡ Err Stop.Reading → ReadingFailed (D.left dir.old) (Rose (D.faults dir.old) (D.faults dir.new)) (InputFailed (L.callers door.old) (L.callers door.new) (Rose (L.faults door.old) (L.faults door.new))) }
     ensures accept_cause { result ≡ Err Stop.Accepting → AcceptingFailed (D.left dir.old) (Rose (L.accept_faults door.old) (L.accept_faults door.new)) }
     ensures dir_fault { D.faults dir.old < D.faults dir.new → result ≡ Err Stop.Reading }
     ensures caller_fault { L.faults door.old < L.faults door.new → result ≡ Err Stop.Reading }
@@ -46,9 +48,11 @@ fn do_over<L: Door>(alloc: Global, task: Task, dir: &Directory, door: &mut L) ->
     ensures answer { IfOk result (λ reply. IfSome (input_of (L.callers door.old)) (λ bytes. with_input task dir.now bytes ≡ outcome_of_reply reply)) }
     ensures status { IfOk result (λ reply. is_task_status task reply.status ≡ true) }
     ensures no_fault { IfOk result (λ reply. is_fault reply.status ≡ false) }
+    ensures not_refused { IfOk result (λ reply. reply.status ≢ 4) }
     ensures accept_cause { result ≡ Err Stop.Accepting → Rose (L.accept_faults door.old) (L.accept_faults door.new) }
     ensures accept_fault { L.accept_faults door.old < L.accept_faults door.new → result ≡ Err Stop.Accepting }
-    ensures cause { result ≡ Err Stop.Reading → Rose (L.faults door.old) (L.faults door.new) }
+    ensures unsent { SendsNothing (L.callers door.old) (L.callers door.new) }
+    ensures cause { result ≡ Err Stop.Reading → InputFailed (L.callers door.old) (L.callers door.new) (Rose (L.faults door.old) (L.faults door.new)) }
     ensures fault { L.faults door.old < L.faults door.new → result ≡ Err Stop.Reading }
 {
     match read_input(alloc, door, MAX_INPUT)? {
@@ -62,6 +66,7 @@ fn do_with(alloc: Global, task: Task, dir: &Directory, input: &[u8]) -> Result<R
     ensures answer { IfOk result (λ reply. with_task task dir.now input.now ≡ outcome_of_reply reply) }
     ensures status { IfOk result (λ reply. is_task_status task reply.status ≡ true) }
     ensures no_fault { IfOk result (λ reply. is_fault reply.status ≡ false) }
+    ensures not_refused { IfOk result (λ reply. reply.status ≢ 4) }
     ensures memory { IfErr result (λ fault. fault ≡ DeviceFault.NoMemory) }
 {
     match task {
@@ -78,6 +83,7 @@ fn explain_ticket(alloc: Global, dir: &Directory, input: &[u8]) -> Result<Reply,
     ensures answer { IfOk result (λ reply. with_task Task.Explain dir.now input.now ≡ outcome_of_reply reply) }
     ensures status { IfOk result (λ reply. is_task_status Task.Explain reply.status ≡ true) }
     ensures no_fault { IfOk result (λ reply. is_fault reply.status ≡ false) }
+    ensures not_refused { IfOk result (λ reply. reply.status ≢ 4) }
     ensures memory { IfErr result (λ fault. fault ≡ DeviceFault.NoMemory) }
 {
     match explain(alloc, dir, input) {

@@ -1,6 +1,6 @@
 -- How serving a caller ends.
 use Rattle.std.proofs.Common.{◌≡◌, ◌∙◌, ℕ, zero, suc, ◌+◌, ◌-◌, ◌<◌, Bool, true, false, not, List, [], ◌∷◌, ◌++◌, length, refl, sym, ap, append_assoc, append-nil, length-append, arith, inl, inr}
-use Rattle.std.specs.Prelude.{Option, None, Some, Ok, if◌then◌else◌}
+use Rattle.std.specs.Prelude.{Option, None, Some, Ok, if◌then◌else◌, nat_eq}
 use Rattle.std.specs.Io.KnownBytes.{Appends}
 use Rattle.std.proofs.KnownBytes.{Appends-trans}
 use Rattle.std.proofs.Math.Dec.{eqb-suc-zero}
@@ -11,9 +11,9 @@ use Rattle.kdc_frames.specs.Frames.{Cut, End, Front, TooLong, Whole, frame, fron
 use Rattle.kdc_frames.specs.Notes.{leave_note, notes}
 use Rattle.kdc_frames.specs.Requests.{Reading, leave_after_long, long_request, read_front, read_within, reading_of, with_request}
 use Rattle.kdc_frames.specs.declared.leave.Leave.{Leave}
-use Rattle.kdc_frames.specs.declared.leave.Leave.TheVariants.{Budget, Fault, FrameCut}
-use Rattle.kdc_frames.proofs.FrameBytes.{piece_long, piece_whole}
-use Rattle.kdc_frames.proofs.Readings.{read_nothing, read_spent, read_turn, reading_is}
+use Rattle.kdc_frames.specs.declared.leave.Leave.TheVariants.{Budget, Fault, FrameCut, FrameTooLong}
+use Rattle.kdc_frames.proofs.FrameBytes.{front_end, piece_long, piece_whole}
+use Rattle.kdc_frames.proofs.Readings.{read_spent, read_turn, reading_is}
 use Rattle.kdc_run.specs.Talks.{IsTalk, SentReplies, has_failed}
 use Rattle.kdc_run.specs.Turns.{IsServed as Answers, TakesTurn}
 use Rattle.kdc_run.specs.Worlds.{Stage}
@@ -38,6 +38,7 @@ pub record IsEnd (n more : ℕ) (a b c : Stage) (requests : List (List ℕ)) (ta
   pub read_all : failed ≡ false → read_within more (tail ++ c.caller.left) ≡ last_reading late own c.caller.left
   pub fails : has_failed c.caller ≡ failed
   pub sent : SentReplies failed (exchanges a.inputs (requests ++ late)) a.caller.sent c.caller.sent
+  pub whole : own ≡ Some FrameCut → SentReplies false (exchanges a.inputs (requests ++ late)) a.caller.sent c.caller.sent
   pub inputs : c.inputs ≡ inputs_after (n + length late) a.inputs
   pub held : Appends a.held c.held (notes a.inputs (requests ++ late))
 
@@ -60,6 +61,7 @@ finish n more a b c far tail late own failed end requests count leave reason =
             ∙ ap (with_requests far.requests) (end.read_all (sym end.fails ∙ fine))
             ∙ sym (ap (λ (r : Reading). record r { rest = c.caller.left }) is);
         replies = rw (end.fails, requests_are) end.sent;
+        whole = λ cut. rw requests_are (end.whole (sym (ap (λ (r : Reading). r.leave) is) ∙ cut));
       };
       count = count ∙ ap (λ k. k + length late) (sym far.count) ∙ sym (length-append far.requests late) ∙ sym (ap length requests_are);
       reason = reason ∙ ap (λ f. if f then Some Fault else own) (sym end.fails) ∙ ap (λ (o : Option Leave). if has_failed c.caller then Some Fault else o) (sym (ap (λ (r : Reading). r.leave) is));
@@ -112,6 +114,7 @@ ended n a b c h sofar turn none =
       read_all = λ _. ap (read_within (suc (10000 - suc n))) (sym on) ∙ read ∙ ap (last_reading [] None) (sym turn.1.left_so);
       fails = no_faults c.caller (turn.1.faults ∙ far.faults);
       sent = none_sent n a b c far turn.1.sent;
+      whole = λ _. none_sent n a b c far turn.1.sent;
       inputs = none_more n a b c far turn.1.inputs;
       held = none_held n a b c far turn.1.held;
     }) n (omega arith) None refl
@@ -129,6 +132,7 @@ broken n a b c h sofar turn none =
       read_all = λ _. ap (read_within (suc (10000 - suc n))) (sym on) ∙ read ∙ ap (last_reading [] (Some FrameCut)) (sym turn.1.left_so);
       fails = no_faults c.caller (turn.1.faults ∙ far.faults);
       sent = none_sent n a b c far turn.1.sent;
+      whole = λ _. none_sent n a b c far turn.1.sent;
       inputs = none_more n a b c far turn.1.inputs;
       held = none_held n a b c far turn.1.held;
     }) n (omega arith) (Some FrameCut) refl
@@ -153,6 +157,7 @@ failed n a b c h sofar turn none =
       read_all = λ e. absurd (cc);
       fails = some_faults c.caller rose;
       sent = replies_less (exchanges a.inputs (far.requests ++ [])) a.caller.sent c.caller.sent (none_sent n a b c far turn.sent);
+      whole = λ _. none_sent n a b c far turn.sent;
       inputs = none_more n a b c far turn.inputs;
       held = none_held n a b c far turn.held;
     }) n (omega arith) (Some Fault) refl
@@ -164,8 +169,9 @@ pub answered_long : (n : ℕ) (a b c : Stage) → n < 10000 → SoFar n a b → 
 answered_long n a b c h sofar turn none =
     let far = sofar none in
     let piece = piece_long b.caller.left c.caller.left turn.read in
-    let k = 10000 - suc n in
     let is = inputs_so n a b far in
+    let sent : SentReplies false (exchanges a.inputs (far.requests ++ long_request ∷ [])) a.caller.sent c.caller.sent =
+    turn.sent.0 ∙ ap (λ l. l ++ frame (answered b.inputs long_request).reply) far.sent ∙ append_assoc a.caller.sent _ _ ∙ ap (λ l. a.caller.sent ++ l) (sym (replies_more a.inputs b.inputs far.requests long_request is)) in
     finish n (suc (10000 - suc n)) a b c far piece.piece (long_request ∷ []) (Some (leave_after_long (10000 - suc n))) false
     (record {
       all = left_over n h;
@@ -173,15 +179,28 @@ answered_long n a b c h sofar turn none =
       read = read_front_of (10000 - suc n) piece.piece (TooLong []) (ap front_of (sym (append-nil piece.piece)) ∙ piece.each []);
       read_all = λ _. read_front_of (10000 - suc n) (piece.piece ++ c.caller.left) (TooLong c.caller.left) (piece.each c.caller.left);
       fails = no_faults c.caller (turn.sent.1 ∙ far.faults);
-      sent = turn.sent.0 ∙ ap (λ l. l ++ frame (answered b.inputs long_request).reply) far.sent ∙ append_assoc a.caller.sent _ _ ∙ ap (λ l. a.caller.sent ++ l) (sym (replies_more a.inputs b.inputs far.requests long_request is));
+      sent = sent;
+      whole = λ _. sent;
       inputs = more_inputs n a b c long_request far _ true turn;
       held = held_more n a b c long_request far is turn.answer;
     }) (n + 1) refl (Some (leave_after_long (10000 - suc n))) refl
 
+-- nothing stands behind the last frame
+nothing_more : (more : ℕ) → (leave : Option Leave) × (read_within more [] ≡ last_reading [] leave []) × (leave ≡ Some FrameCut → ⊥)
+nothing_more zero = (Some Budget, read_spent [], λ e. absurd (cc))
+nothing_more (suc more) = (None, read_turn more [] End front_end, λ e. absurd (cc))
+
+after_long : (more : ℕ) → Some (leave_after_long more) ≡ Some FrameCut → ⊥
+after_long more e = by_test (nat_eq more 0) e
+  where
+    by_test : (none : Bool) → Some (if none then Budget else FrameTooLong) ≡ Some FrameCut → ⊥
+    by_test true e = absurd (cc)
+    by_test false e = absurd (cc)
+
 -- a request was answered, and the caller failed at its reply
 unsent_with : (n : ℕ) (a b c : Stage) → n < 10000 → (far : IsSoFar n a b) (request piece : List ℕ) (own : Option Leave) (front : Front)
-    → b.caller.left ≡ piece ++ c.caller.left → read_within (suc (10000 - suc n)) piece ≡ last_reading (request ∷ []) own [] → Answers request front false b c → IsTalk (n + 1) (Some Fault) [] a c
-unsent_with n a b c h far request piece own front split read turn =
+    → b.caller.left ≡ piece ++ c.caller.left → read_within (suc (10000 - suc n)) piece ≡ last_reading (request ∷ []) own [] → (own ≡ Some FrameCut → ⊥) → Answers request front false b c → IsTalk (n + 1) (Some Fault) [] a c
+unsent_with n a b c h far request piece own front split read uncut turn =
     let is = inputs_so n a b far in
     let rose : Rose 0 c.caller.faults = rw far.faults at turn.sent.1 in
     finish n (suc (10000 - suc n)) a b c far piece (request ∷ []) own true
@@ -192,6 +211,7 @@ unsent_with n a b c h far request piece own front split read turn =
       read_all = λ e. absurd (cc);
       fails = some_faults c.caller rose;
       sent = replies_some a.inputs b.inputs far.requests request is a.caller.sent b.caller.sent c.caller.sent far.sent turn.sent.0;
+      whole = λ cut. absurd (uncut cut);
       inputs = more_inputs n a b c request far front false turn;
       held = held_more n a b c request far is turn.answer;
     }) (n + 1) refl (Some Fault) refl
@@ -202,15 +222,15 @@ unsent n a b c h sofar turn none =
     elim turn [
       | inl served ↦
           (let piece = piece_whole b.caller.left served.0 c.caller.left served.1.read in
-          let rest = read_nothing (10000 - suc n) in
+          let rest = nothing_more (10000 - suc n) in
           unsent_with n a b c h far served.0 piece.piece rest.0 _ piece.whole
           (read_front_of (10000 - suc n) piece.piece (Whole served.0 []) (ap front_of (sym (append-nil piece.piece)) ∙ piece.each []) ∙ ap (with_request served.0) rest.1)
-          served.1)
+          rest.2 served.1)
       | inr long ↦
           (let piece = piece_long b.caller.left c.caller.left long.read in
           unsent_with n a b c h far long_request piece.piece (Some (leave_after_long (10000 - suc n))) _ piece.whole
           (read_front_of (10000 - suc n) piece.piece (TooLong []) (ap front_of (sym (append-nil piece.piece)) ∙ piece.each []))
-          long)
+          (after_long (10000 - suc n)) long)
     ]
 
 pub spent : (a b : Stage) → SoFar 10000 a b → a.caller.faults ≡ 0 → IsTalk 10000 (Some Budget) [] a b
@@ -224,6 +244,7 @@ spent a b sofar none =
       read_all = λ _. read_spent b.caller.left;
       fails = no_faults b.caller far.faults;
       sent = none_sent 10000 a b b far refl;
+      whole = λ _. none_sent 10000 a b b far refl;
       inputs = none_more 10000 a b b far refl;
       held = none_held 10000 a b b far refl;
     }) 10000 refl (Some Budget) refl

@@ -1,5 +1,5 @@
 -- One caller after the other.
-use Rattle.std.proofs.Common.{◌≡◌, ◌∙◌, ℕ, ◌+◌, ◌*◌, ◌≤◌, Bool, true, false, List, [], ◌∷◌, ◌++◌, length, map, refl, sym, ap, subst, append_assoc, append-nil, length-append, arith, inl, inr}
+use Rattle.std.proofs.Common.{◌≡◌, ◌∙◌, ℕ, ◌+◌, ◌*◌, ◌<◌, ◌≤◌, Bool, true, false, List, [], ◌∷◌, ◌++◌, length, map, refl, sym, ap, subst, append_assoc, append-nil, length-append, arith, inl, inr}
 use Rattle.std.specs.Prelude.{Option, None, Some, Ok, is_some, Err}
 use Rattle.std.specs.Io.KnownBytes.{Appends}
 use Rattle.std.proofs.KnownBytes.{Appends-nil, Appends-trans}
@@ -105,12 +105,12 @@ visited_more n requests more old before mid new far takes same_inputs same_held 
         rw (taken_are, run_notes_on old.inputs (taken far.so_far.visits) (taken_of visit)) (Appends-trans old.held before.held new.held _ _ far.so_far.notes one)
 
 pub run_of_all : (callers : ℕ) (served : Served) (old new : World) → served.callers ≡ callers → IsVisited served.callers served.requests old new → IsRun callers served old new
-run_of_all callers served old new e far = record { visited = far.so_far; number = far.number; all = inl e }
+run_of_all callers served old new e far = record { visited = far.so_far; number = far.number; within = omega (arith, e); all = inl e }
 
 -- none is left
-pub run_of_few : (callers n requests : ℕ) (old before : World) (new : World) → IsVisited n requests old before → TakesCaller {E = RunFault} (Some before.callers) (Some new.callers) (Ok false)
+pub run_of_few : (callers n requests : ℕ) → n ≤ callers → (old before : World) (new : World) → IsVisited n requests old before → TakesCaller {E = RunFault} (Some before.callers) (Some new.callers) (Ok false)
     → new.inputs ≡ before.inputs → new.held ≡ before.held → IsRun callers (record { callers = n; requests = requests }) old new
-run_of_few callers n requests old before new far takes same_inputs same_held =
+run_of_few callers n requests few old before new far takes same_inputs same_held =
     let none = came_none (arrived before.callers) before.callers.waiting new.callers takes.0 takes.1 in
     let so_far = far.so_far in
     record {
@@ -124,6 +124,7 @@ run_of_few callers n requests old before new far takes same_inputs same_held =
         notes = rw same_held so_far.notes;
       };
       number = far.number;
+      within = few;
       all = inr (ap (λ (c : CallersValue). c.current) none.1, ap (λ (c : CallersValue). c.waiting) none.1);
     }
 
@@ -149,11 +150,11 @@ run_goes_on n requests more old new callers next batches moments blocks director
     let visited = known_on (Comes true) (Talks (EndsTalk (Ok more))) (Visited more) (λ a b c x y. (b, x, y)) before mid new (comes true callers next batches moments blocks directory held q) r in
     known_on (IsVisited n requests) (Visited more) (IsVisited (n + 1) (requests + more)) (λ a b c x y. visited_more n requests more a b y.0 c x y.1.0 y.1.1 y.1.2 y.2) old before new p visited
 
-pub run_stops : (limit n requests : ℕ) (old : Option World) (callers next : Option CallersValue) (batches : Option (List (List ℕ))) (moments : Option (List Moment)) (blocks : Option BlocksValue) (directory : DirectoryValue) (held : Option (List ℕ))
+pub run_stops : (limit n requests : ℕ) → n ≤ limit → (old : Option World) (callers next : Option CallersValue) (batches : Option (List (List ℕ))) (moments : Option (List Moment)) (blocks : Option BlocksValue) (directory : DirectoryValue) (held : Option (List ℕ))
     → Known (IsVisited n requests) old (world callers batches moments blocks directory held) → TakesCaller {E = RunFault} callers next (Ok false)
     → Known (RunsOver limit (Ok (record { callers = n; requests = requests }))) old (world next batches moments blocks directory held)
-run_stops limit n requests old callers next batches moments blocks directory held p q =
-    known_on (IsVisited n requests) (Comes false) (RunsOver limit (Ok (record { callers = n; requests = requests }))) (λ a b c x y. run_of_few limit n requests a b c x y.0 y.1 y.2)
+run_stops limit n requests few old callers next batches moments blocks directory held p q =
+    known_on (IsVisited n requests) (Comes false) (RunsOver limit (Ok (record { callers = n; requests = requests }))) (λ a b c x y. run_of_few limit n requests few a b c x y.0 y.1 y.2)
     old (world callers batches moments blocks directory held) (world next batches moments blocks directory held) p (comes false callers next batches moments blocks directory held q)
 
 -- so many callers were served
@@ -177,20 +178,24 @@ same_callers fault None next q = tt
 same_callers fault (Some a) None q = absurd q
 same_callers fault (Some a) (Some b) q = q
 
-pub run_without : (limit n requests : ℕ) (fault : RunFault) → fault ≡ Door → (old : Option World) (callers next : Option CallersValue) (batches : Option (List (List ℕ))) (moments : Option (List Moment)) (blocks : Option BlocksValue) (directory : DirectoryValue) (held : Option (List ℕ))
+-- so many callers, fewer than the limit
+fewer : (n limit : ℕ) {visits : ℕ} → n < limit → visits ≡ n → visits < limit
+fewer n limit few number = omega (arith, few, number)
+
+pub run_without : (limit n requests : ℕ) → n < limit → (fault : RunFault) → fault ≡ Door → (old : Option World) (callers next : Option CallersValue) (batches : Option (List (List ℕ))) (moments : Option (List Moment)) (blocks : Option BlocksValue) (directory : DirectoryValue) (held : Option (List ℕ))
     → Known (IsVisited n requests) old (world callers batches moments blocks directory held) → TakesCaller callers next (Err fault)
     → Known (RunsOver limit (Err fault)) old (world next batches moments blocks directory held)
-run_without limit n requests fault door old callers next batches moments blocks directory held p q =
-    known_on (IsVisited n requests) (λ a b. b ≡ a) (RunsOver limit (Err fault)) (λ a b c x y. record { requests = requests; before = b; visited = x.so_far; breaks = inl (door, y) })
+run_without limit n requests few fault door old callers next batches moments blocks directory held p q =
+    known_on (IsVisited n requests) (λ a b. b ≡ a) (RunsOver limit (Err fault)) (λ a b c x y. record { requests = requests; before = b; visited = x.so_far; few = fewer n limit few x.number; breaks = inl (door, y) })
     old (world callers batches moments blocks directory held) (world next batches moments blocks directory held) p
     (known_callers (λ a b. b ≡ a) (λ a b. b ≡ a) (λ w c e. ap (λ (x : CallersValue). record w { callers = x }) e) callers next batches moments blocks directory held (same_callers fault callers next q))
 
 -- the run ended with a caller
-pub run_breaks : (limit n requests : ℕ) (fault : RunFault) (old new : Option World) (callers next : Option CallersValue) (batches : Option (List (List ℕ))) (moments : Option (List Moment)) (blocks : Option BlocksValue) (directory : DirectoryValue) (held : Option (List ℕ))
+pub run_breaks : (limit n requests : ℕ) → n < limit → (fault : RunFault) (old new : Option World) (callers next : Option CallersValue) (batches : Option (List (List ℕ))) (moments : Option (List Moment)) (blocks : Option BlocksValue) (directory : DirectoryValue) (held : Option (List ℕ))
     → Known (IsVisited n requests) old (world callers batches moments blocks directory held) → TakesCaller {E = RunFault} callers next (Ok true)
     → Known (Talks (EndsTalk (Err fault))) (world next batches moments blocks directory held) new → Known (RunsOver limit (Err fault)) old new
-run_breaks limit n requests fault old new callers next batches moments blocks directory held p q r =
+run_breaks limit n requests few fault old new callers next batches moments blocks directory held p q r =
     let before = world callers batches moments blocks directory held in
     let mid = world next batches moments blocks directory held in
     let breaks = known_on (Comes true) (Talks (EndsTalk (Err fault))) (CallerBreaks fault) (λ a b c x y. record { next = b; comes = x; breaks = y }) before mid new (comes true callers next batches moments blocks directory held q) r in
-    known_on (IsVisited n requests) (CallerBreaks fault) (RunsOver limit (Err fault)) (λ a b c x y. record { requests = requests; before = b; visited = x.so_far; breaks = inr y }) old before new p breaks
+    known_on (IsVisited n requests) (CallerBreaks fault) (RunsOver limit (Err fault)) (λ a b c x y. record { requests = requests; before = b; visited = x.so_far; few = fewer n limit few x.number; breaks = inr y }) old before new p breaks

@@ -1,5 +1,5 @@
 -- How serving a caller goes on and ends, of what is told.
-use Rattle.std.proofs.Common.{◌≡◌, ◌∙◌, ℕ, suc, ◌+◌, ◌-◌, ◌≤◌, List, [], refl, sym, ap, subst, arith, inl, inr}
+use Rattle.std.proofs.Common.{◌≡◌, ◌∙◌, ℕ, suc, ◌+◌, ◌-◌, ◌<◌, ◌≤◌, List, [], refl, sym, ap, subst, arith, inl, inr}
 use Rattle.std.specs.Prelude.{Option, Some, Ok, Err}
 use Rattle.std.specs.Io.KnownBytes.{Appends}
 use Rattle.kdc_prelude.specs.Printed.{AppendsFront}
@@ -40,9 +40,9 @@ talk_ends n turn requests leave result e ends old mid new p q =
     (known_on (Talks (SoFar n)) (Talks (TakesTurn (Ok turn))) (Talks (TalksOver (Ok made))) (talks_on (SoFar n) (TakesTurn (Ok turn)) (TalksOver (Ok made)) ends) old mid new p q)
 
 -- the run ended at a turn
-pub talk_breaks : (n : ℕ) (fault : RunFault) (old mid new : Option World) → Known (Talks (SoFar n)) old mid → Known (Talks (TakesTurn (Err fault))) mid new → Known (Talks (TalksOver (Err fault))) old new
-talk_breaks n fault old mid new p q =
-    known_on (Talks (SoFar n)) (Talks (TakesTurn (Err fault))) (Talks (TalksOver (Err fault))) (talks_on (SoFar n) (TakesTurn (Err fault)) (TalksOver (Err fault)) (λ a b c x y. record { requests = n; before = b; settled = x; breaks = y })) old mid new p q
+pub talk_breaks : (n : ℕ) → n < 10000 → (fault : RunFault) (old mid new : Option World) → Known (Talks (SoFar n)) old mid → Known (Talks (TakesTurn (Err fault))) mid new → Known (Talks (TalksOver (Err fault))) old new
+talk_breaks n few fault old mid new p q =
+    known_on (Talks (SoFar n)) (Talks (TakesTurn (Err fault))) (Talks (TalksOver (Err fault))) (talks_on (SoFar n) (TakesTurn (Err fault)) (TalksOver (Err fault)) (λ a b c x y. record { requests = n; few = few; before = b; settled = x; breaks = y })) old mid new p q
 
 -- why a caller is left after a frame that is too long
 pub long_talk : (n : ℕ) (leave : Leave) (result : Talk) → result ≡ record { requests = n + 1; leave = Some leave } → leave ≡ leave_after_long (9999 - n)

@@ -1,5 +1,5 @@
 -- What a run does with its callers, one after the other.
-use Rattle.std.specs.Prelude.{◌≡◌, ◌⊎◌, ℕ, Bool, true, List, [], ◌∷◌, ◌++◌, length, map, None, Some, Result, Ok, Err}
+use Rattle.std.specs.Prelude.{◌≡◌, ◌⊎◌, ℕ, ◌<◌, ◌≤◌, Bool, true, List, [], ◌∷◌, ◌++◌, length, map, None, Some, Result, Ok, Err}
 use Rattle.std.specs.Io.KnownBytes.{Appends}
 use Rattle.kb_base.specs.Callers.{CallerValue, TakesCaller, arrived}
 use Rattle.kdc_frames.specs.Exchanges.{Inputs, all_requests, inputs_after}
@@ -39,10 +39,11 @@ pub record AreVisited (requests : ℕ) (old new : World) : Type 0 where
   pub inputs : new.inputs ≡ inputs_after requests old.inputs
   pub notes : Appends old.held new.held (run_notes old.inputs (taken visits))
 
--- so many callers were served, or all that came
+-- so many callers were served and none more, or all that came
 pub record IsRun (callers : ℕ) (served : Served) (old new : World) : Type 0 where
   pub visited : AreVisited served.requests old new
   pub number : length visited.visits ≡ served.callers
+  pub within : served.callers ≤ callers
   pub all : (served.callers ≡ callers) ⊎ ((new.callers.current ≡ None) × (new.callers.waiting ≡ []))
 
 -- the next caller was taken, or there is none, and nothing else happened
@@ -55,13 +56,14 @@ pub record CallerBreaks (fault : RunFault) (old new : World) : Type 0 where
   pub comes : Comes true old next
   pub breaks : Talks (EndsTalk (Err fault)) next new
 
--- the run ended after callers were served: no caller could be taken in, or with one that came
-pub record RunBreaks (fault : RunFault) (old new : World) : Type 0 where
+-- the run ended after callers were served, fewer than were asked for: no caller could be taken in, or with one that came
+pub record RunBreaks (callers : ℕ) (fault : RunFault) (old new : World) : Type 0 where
   pub requests : ℕ
   pub before : World
   pub visited : AreVisited requests old before
+  pub few : length visited.visits < callers
   pub breaks : ((fault ≡ Door) × (new ≡ before)) ⊎ CallerBreaks fault before new
 
 abbrev pub RunsOver : ℕ → Result Served RunFault → World → World → Type 0
 RunsOver callers (Ok served) old new = IsRun callers served old new
-RunsOver callers (Err fault) old new = RunBreaks fault old new
+RunsOver callers (Err fault) old new = RunBreaks callers fault old new

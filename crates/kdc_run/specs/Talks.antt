@@ -1,5 +1,5 @@
 -- What serving a caller does: its requests are answered until its bytes end, or it is left.
-use Rattle.std.specs.Prelude.{◌≡◌, ◌⊎◌, ℕ, ◌-◌, ◌≤◌, Bool, true, false, not, nat_eq, List, [], ◌++◌, length, take, Option, Result, Ok, Err}
+use Rattle.std.specs.Prelude.{◌≡◌, ◌⊎◌, ℕ, ◌-◌, ◌<◌, ◌≤◌, Bool, true, false, not, nat_eq, List, [], ◌++◌, length, take, Option, Some, Result, Ok, Err}
 use Rattle.std.specs.Io.KnownBytes.{Appends}
 use Rattle.kdc_prelude.specs.Printed.{AppendsFront}
 use Rattle.kb_base.specs.Callers.{CallerValue}
@@ -7,6 +7,7 @@ use Rattle.kdc_frames.specs.Exchanges.{Exchange, Inputs, exchanges, framed_repli
 use Rattle.kdc_frames.specs.Notes.{leave_note, notes}
 use Rattle.kdc_frames.specs.Requests.{Taken, leave_of, reading_of, requests_of}
 use Rattle.kdc_frames.specs.declared.leave.Leave.{Leave}
+use Rattle.kdc_frames.specs.declared.leave.Leave.TheVariants.{FrameCut}
 use Rattle.kdc_run.specs.Settled.{SoFar}
 use Rattle.kdc_run.specs.Turns.{TurnBreaks}
 use Rattle.kdc_run.specs.Worlds.{Stage}
@@ -27,11 +28,12 @@ SentReplies true history old new =
     (n : ℕ) × (new ≡ old ++ take n (framed_replies history)) × (length (framed_replies (take (length history - 1) history)) ≤ n)
 
 -- A caller of whose bytes these were taken: no byte past the frames that were answered and a part of one more, and all that is due
--- where it did not fail; and it was sent the replies to its requests
+-- where it did not fail; and it was sent the replies to its requests, all of them whole where bytes were taken behind the last frame
 pub record IsServed (inputs : Inputs) (bytes sent : List ℕ) (caller : CallerValue) : Type 0 where
   pub no_more : (reading_of bytes).rest ≡ []
   pub all : has_failed caller ≡ false → reading_of (bytes ++ caller.left) ≡ record (reading_of bytes) { rest = caller.left }
   pub replies : SentReplies (has_failed caller) (exchanges inputs (requests_of (taken_so bytes caller))) sent caller.sent
+  pub whole : (reading_of bytes).leave ≡ Some FrameCut → SentReplies false (exchanges inputs (requests_of (taken_so bytes caller))) sent caller.sent
 
 -- the requests of a caller were answered, with these notes
 pub record IsTalk (requests : ℕ) (leave : Option Leave) (last : List ℕ) (old new : Stage) : Type 0 where
@@ -43,9 +45,10 @@ pub record IsTalk (requests : ℕ) (leave : Option Leave) (last : List ℕ) (old
   pub inputs : new.inputs ≡ inputs_after requests old.inputs
   pub held : Appends old.held new.held (notes old.inputs (requests_of (taken_so bytes new.caller)) ++ last)
 
--- the run ended at a turn, after so many requests of the caller were answered
+-- the run ended at a turn, after so many requests of the caller were answered, fewer than its budget
 pub record TalkBreaks (fault : RunFault) (old new : Stage) : Type 0 where
   pub requests : ℕ
+  pub few : requests < 10000
   pub before : Stage
   pub settled : SoFar requests old before
   pub breaks : TurnBreaks fault before new

@@ -1,5 +1,5 @@
 //! Serving callers.
-ghost use Rattle.std.specs.Prelude.{◌≡◌, ◌≤◌, IfErr};
+ghost use Rattle.std.specs.Prelude.{◌≡◌, ◌≤◌, IfErr, IfOk};
 ghost use Rattle.kb_base.specs.Callers.{TakesCaller};
 ghost use Rattle.kdc_run.specs.Causes.{HasCount, is_changes, is_door, is_entropy, is_out};
 ghost use Rattle.kdc_run.specs.Runs.{RunsOver};
@@ -28,6 +28,7 @@ pub fn serve<G: Changes, L: Door, C: Clock, E: Entropy, O: Sink>(
 ) -> Result<Served, RunFault>
     requires { callers ≤ 1000000 }
     ensures run { Known (RunsOver callers result) (world (L.callers door.old) (G.batches changes.old) (C.moments clock.old) (E.blocks entropy.old) dir.old (O.held out.old)) (world (L.callers door.new) (G.batches changes.new) (C.moments clock.new) (E.blocks entropy.new) dir.new (O.held out.new)) }
+    ensures within { IfOk result (λ served. served.callers ≤ callers) }
     ensures changes { HasCount is_changes (G.faults changes.old) (G.faults changes.new) result }
     ensures entropy { HasCount is_entropy (E.faults entropy.old) (E.faults entropy.new) result }
     ensures out { HasCount is_out (O.faults out.old) (O.faults out.new) result }

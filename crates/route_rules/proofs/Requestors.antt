@@ -36,7 +36,7 @@ from_at {X = X} p (x ∷ xs) n i h = by_test (p x) refl (λ later. from_at p xs 
     by_test true e rest h = let same = one_of n i h in (0, omega (arith, same), x, refl, e)
     by_test false e rest h = let later = rest h in (suc later.0, omega (arith, later.1), later.2, later.3, later.4)
 
-position_at : {X : Type 0} (p : X → Bool) (xs : List X) (i : ℕ) → position p xs ≡ Some i → (x : X) × (slice_get xs i ≡ Some x) × (p x ≡ true)
+pub position_at : {X : Type 0} (p : X → Bool) (xs : List X) (i : ℕ) → position p xs ≡ Some i → (x : X) × (slice_get xs i ≡ Some x) × (p x ≡ true)
 position_at p xs i h =
     let found = from_at p xs 0 i (sym (position_from-zero p xs) ∙ h) in
     let same : i ≡ found.0 = omega (arith, found.1) in

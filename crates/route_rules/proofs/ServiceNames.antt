@@ -1,7 +1,7 @@
 -- Service principal names of a directory are short.
-use Rattle.std.proofs.Common.{◌≡◌, ℕ, zero, suc, ◌+◌, ◌<◌, ◌≤◌, ◌∷◌, ◌++◌, ◌&&◌, ◌||◌, ◌^◌, not, cond, List, [], Bool, true, false, length, refl, ap, sym, subst, ◌∙◌, add-one, arith, length-append}
-use Rattle.std.specs.Prelude.{codes, Option, None, Some, IfSome, is_none, is_ok, nat_eq, nat_le, nat_lt, option_map, position, slice_get, unwrap_or, if◌then◌else◌}
-use Rattle.std.specs.List.{join_with_byte, list_all, list_any, position_from, position_or_len, starts_with}
+use Rattle.std.proofs.Common.{◌≡◌, ℕ, ◌+◌, ◌<◌, ◌≤◌, ◌∷◌, ◌++◌, ◌&&◌, ◌||◌, not, cond, List, [], Bool, true, false, length, refl, ap, sym, subst, ◌∙◌, arith, length-append}
+use Rattle.std.specs.Prelude.{codes, Option, None, Some, is_ok, nat_eq, nat_le, nat_lt, position, if◌then◌else◌}
+use Rattle.std.specs.List.{join_with_byte, list_all, list_any, position_from, starts_with}
 use Rattle.std.specs.Cmp.Lexicographic.{same_text as equal_texts}
 use Rattle.std.proofs.lemmas.Bool.{ltb-false, ltb-true}
 use Rattle.std.proofs.lemmas.Iterator.Adapters.{position_from-zero}
@@ -10,7 +10,7 @@ use Rattle.kdc_prelude.specs.Texts.{is_one_of, same_text}
 use Rattle.kdc_prelude.specs.Verdicts.{first_failing, ◌or_else◌}
 use Rattle.kdc_prelude.proofs.Bools.{both}
 use Rattle.krb_names.specs.declared.refusal.NameRefusal.TheVariants.{Empty, TooLong, BadText}
-use Rattle.krb_names.specs.Pieces.{fault_of, has_forbidden, is_empty, is_long, unless}
+use Rattle.krb_names.specs.Pieces.{has_forbidden, is_empty, is_long, unless}
 use Rattle.krb_names.specs.Spns.{spn_pieces, spn_reading}
 use Rattle.dir_records.specs.declared.records.Account.{Account}
 use Rattle.dir_records.specs.declared.records.RealmRec.{RealmRec}

@@ -1,3 +1,4 @@
 pub mod Aims
+pub mod Cross
 pub mod Meanings
 pub mod Requestor

@@ -74,8 +74,9 @@ fn place_of_part(dir: &Directory, realm: u32, kind: i32, part: &str) -> Option<(
     }
 }
 
-/// The account and the realm that one part of a name of this kind has, where it has both.
-fn enterprise_pieces(kind: i32, part: &str) -> Option<(&str, &str)>
+/// The account and the realm that the one part of a name of this kind has, where it has both: `a` and `C` of the part
+/// `a@C`, cut at its last `@`, of kind 10 (NT-ENTERPRISE).
+pub fn enterprise_pieces(kind: i32, part: &str) -> Option<(&str, &str)>
     ensures { option_map (λ pieces. (pieces.0.now, pieces.1.now)) result ≡ enterprise_pieces kind part.now }
 {
     if kind == NT_ENTERPRISE {

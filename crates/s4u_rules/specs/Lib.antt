@@ -1,4 +1,10 @@
+pub mod Agreement
 pub mod AskClassic
 pub mod AskSelf
 pub mod Conditions
+pub mod Granted
+pub mod HeaderViews
+pub mod Headers
 pub mod Outcomes
+pub mod SelfRules
+pub mod TgsRules

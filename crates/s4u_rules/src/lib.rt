@@ -4,8 +4,20 @@
 mod asked;
 mod classic_question;
 mod conditions;
+mod decide;
+mod header;
+mod header_rules;
+mod header_verdict;
+mod laws;
 mod self_question;
+mod self_rules;
+mod self_user;
 
 pub use asked::Asked;
 pub use classic_question::ask_classic;
+pub use decide::{decide_self, decide_tgs};
+pub use header::{HeaderView, SelfView};
+pub use header_verdict::check_header;
+pub use laws::{granted_tickets_keep_rules, questions_tell_requests};
 pub use self_question::ask_self;
+pub use self_user::{enterprise_user, user_realm, user_record};

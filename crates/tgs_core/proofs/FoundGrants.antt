@@ -1,6 +1,6 @@
 -- What a request that reads is granted by a directory is a grant.
-use Rattle.std.proofs.Common.{◌≡◌, ℕ, zero, suc, ◌+◌, ◌<◌, ◌≤◌, ◌^◌, Bool, true, false, cond, List, [], ◌∷◌, length, get_or, pos, Option, Some, None, refl, sym, ap, ◌∙◌, subst, arith}
-use Rattle.std.specs.Prelude.{◌==◌, IfSome, if◌then◌else◌, min, option_and_then, option_map, position, slice_get, unwrap_or}
+use Rattle.std.proofs.Common.{◌≡◌, ℕ, zero, suc, ◌+◌, ◌<◌, ◌≤◌, ◌^◌, Bool, true, false, List, [], ◌∷◌, length, get_or, Option, Some, None, refl, sym, ap, ◌∙◌, subst, arith}
+use Rattle.std.specs.Prelude.{◌==◌, IfSome, if◌then◌else◌, is_some, min, option_and_then, option_map, position, slice_get, unwrap_or}
 use Rattle.std.specs.List.{AllByRecursion}
 use Rattle.std.proofs.lemmas.List.Quantifiers.{position-Some}
 use Rattle.std.proofs.lemmas.Option.{get_or_from_slice_get}
@@ -18,10 +18,10 @@ use Rattle.krb_messages.specs.declared.kdc_req_body.KdcReqBody.{KdcReqBody}
 use Rattle.krb_messages.specs.KdcReq.{is_as_req, kdc_req}
 use Rattle.krb_messages.specs.KdcReqBody.{kdc_req_body}
 use Rattle.krb_messages.specs.Laws.{kdc_req_body_lawful}
-use Rattle.kdc_records.specs.declared.decision.Aim.TheVariants.{Krbtgt}
+use Rattle.kdc_records.specs.declared.decision.Aim.{Aim}
+use Rattle.kdc_records.specs.declared.decision.Aim.TheVariants.{Krbtgt, Hop, Account}
 use Rattle.kdc_records.specs.declared.decision.Terms.{Terms}
-use Rattle.kdc_records.specs.declared.wish.Branch.{Branch}
-use Rattle.kdc_records.specs.declared.wish.Branch.TheVariants.{Initial, Ordinary, Proxy, SelfTicket}
+use Rattle.kdc_records.specs.declared.ticket_rec.TicketRec.{TicketRec}
 use Rattle.kdc_records.specs.Bits.{bit_if}
 use Rattle.kdc_records.specs.Wishes.{end_by}
 use Rattle.dir_records.specs.declared.records.Account.{Account as AccountRec}
@@ -30,17 +30,21 @@ use Rattle.dir_records.specs.DirectoryValue.{DirectoryValue}
 use Rattle.dir_records.specs.IsDirectory.{IsAccount, IsAccountInRange, IsDirectory, IsRealm, IsRealmInRange}
 use Rattle.dir_core.specs.Lookups.{account_at, realm_named}
 use Rattle.as_core.specs.AsRequests.{as_ask, as_wish}
-use Rattle.as_core.specs.AsRules.{as_terms, client_account, client_index, longest_life}
+use Rattle.as_core.specs.AsRules.{as_terms, longest_life}
+use Rattle.s4u_rules.specs.SelfRules.{enterprise_user, self_terms}
+use Rattle.s4u_rules.specs.TgsRules.{aim_of, ordinary_terms}
+use Rattle.s4u_rules.specs.TgsRules as tgs
 use Rattle.ticket_codec.specs.declared.holding.Holding.{Holding}
 use Rattle.ticket_codec.specs.Holdings.{aim_holding}
 use Rattle.ticket_codec.specs.Made.{IsTicketName}
-use Rattle.tgs_core.specs.Grants.{ByAccount, Grant, Grounds, IsGrant, grant_in, grant_of, grounds_of, terms_of}
-use Rattle.tgs_core.specs.Requests.{Request, branch_of, message_in, request_in, request_of, request_to}
-use Rattle.tgs_core.proofs.ReadRequests.{message_is_read}
+use Rattle.tgs_requests.specs.Askings.{tgs_wish, wish_of}
+use Rattle.tgs_core.specs.Grants.{ByAccount, ByHeader, ForUser, Grant, Grounds, IsGrant, IsGrounds, account_name, grant_with, principal_of_account, terms_of, ticket_name}
+use Rattle.tgs_core.specs.Requests.{Request, request_to}
+use Rattle.tgs_core.proofs.SoundGrants.{account_is, kind_fits, lone_part, realm_is}
 
 -- ---- look-ups
 
-some_is : {X : Type 0} (x y : X) → Some x ≡ Some y → x ≡ y
+pub some_is : {X : Type 0} (x y : X) → Some x ≡ Some y → x ≡ y
 some_is x y e = cc
 
 -- a value that is got by a step
@@ -53,32 +57,68 @@ pub step_of : {A B : Type 0} (found : Option A) (f : A → Option B) (y : B) →
 step_of None f y e = absurd cc
 step_of (Some x) f y e = record { value = x; was = refl; is = e }
 
+-- a value that is mapped
+pub record IsMapped {A B : Type 0} (found : Option A) (f : A → B) (y : B) : Type 0 where
+  pub value : A
+  pub was : found ≡ Some value
+  pub is : f value ≡ y
+
+pub mapped_of : {A B : Type 0} (found : Option A) (f : A → B) (y : B) → option_map f found ≡ Some y → IsMapped found f y
+mapped_of None f y e = absurd cc
+mapped_of (Some x) f y e = record { value = x; was = refl; is = some_is (f x) y e }
+
 pub at_index : {X : Type 0} (P : X → Type 0) (xs : List X) (i : ℕ) (x : X) → AllByRecursion P xs → slice_get xs i ≡ Some x → P x
 at_index P [] i x h e = absurd cc
 at_index P (y ∷ ys) zero x h e = subst P (some_is y x e) h.0
 at_index P (y ∷ ys) (suc i) x h e = at_index P ys i x h.1 e
 
 -- the realm of a name has this name
-named_realm : (dir : DirectoryValue) (name : List ℕ) (i : ℕ) (realm : RealmRec) → realm_named dir name ≡ Some i → slice_get dir.realms i ≡ Some realm → realm.name ≡ name
+pub named_realm : (dir : DirectoryValue) (name : List ℕ) (i : ℕ) (realm : RealmRec) → realm_named dir name ≡ Some i → slice_get dir.realms i ≡ Some realm → realm.name ≡ name
 named_realm dir name i realm found at =
     let passes = (position-Some (λ (r : RealmRec). same_text r.name name) dir.realms i realm found).1 in
     let is : same_text realm.name name ≡ true = subst (λ (r : RealmRec). same_text r.name name ≡ true) (get_or_from_slice_get dir.realms i realm realm at) passes in
     (bytes_decides realm.name name).0 is
 
--- ---- the account that asks
+-- forms and ranges of an account
+pub record IsMember (account : AccountRec) : Type 0 where
+  pub form : IsAccount account
+  pub range : IsAccountInRange account
 
-account_in : (P : AccountRec → Type 0) (dir : DirectoryValue) (i j : ℕ) (realm : RealmRec) (account : AccountRec) → AllByRecursion P realm.accounts → slice_get dir.realms i ≡ Some realm
-    → account_at dir i j ≡ Some account → P account
-account_in P dir i j realm account h at found =
-    at_index P realm.accounts j account h (subst (λ (r : Option RealmRec). option_and_then (λ (found : RealmRec). slice_get found.accounts j) r ≡ Some account) at found)
+-- an account of a realm of the directory
+pub member_in : (dir : DirectoryValue) (i j : ℕ) (realm : RealmRec) (account : AccountRec) → IsDirectory dir → slice_get dir.realms i ≡ Some realm → slice_get realm.accounts j ≡ Some account
+    → IsMember account
+member_in dir i j realm account h at is =
+    let form = at_index IsRealm dir.realms i realm h.consistent.forms.realms at in
+    let range = at_index IsRealmInRange dir.realms i realm h.in_range.realms at in
+    record { form = at_index IsAccount realm.accounts j account form.accounts is; range = at_index IsAccountInRange realm.accounts j account range.accounts is }
 
-client_in : (P : AccountRec → Type 0) (dir : DirectoryValue) (i : ℕ) (client : Option Principal) (realm : RealmRec) (account : AccountRec) → AllByRecursion P realm.accounts
-    → slice_get dir.realms i ≡ Some realm → client_account dir i client ≡ Some account → P account
-client_in P dir i client realm account h at found =
-    let step = step_of (client >>= client_index dir i) (account_at dir i) account found in
-    account_in P dir i step.value realm account h at step.is
+member_found : (dir : DirectoryValue) (i j : ℕ) (account : AccountRec) (found : Option RealmRec) → slice_get dir.realms i ≡ found
+    → option_and_then (λ realm. slice_get realm.accounts j) found ≡ Some account → IsDirectory dir → IsMember account
+member_found dir i j account None was is h = absurd (cc)
+member_found dir i j account (Some realm) was is h = member_in dir i j realm account h was is
 
--- ---- the name that is asked for
+pub member_at : (dir : DirectoryValue) (i j : ℕ) (account : AccountRec) → IsDirectory dir → account_at dir i j ≡ Some account → IsMember account
+member_at dir i j account h is = member_found dir i j account (slice_get dir.realms i) refl is h
+
+-- ---- what a request asks for
+
+server_by : (b : Bool) (message : KdcReq) → (if b then as_wish message.req_body else tgs_wish message).server ≡ message.req_body.sname
+unfolding tgs_wish
+server_by true message = refl
+server_by false message = refl
+
+pub wish_server : (message : KdcReq) → (wish_of message).server ≡ message.req_body.sname
+wish_server message = server_by (is_as_req message) message
+
+nonce_by : (b : Bool) (message : KdcReq) → (if b then as_wish message.req_body else tgs_wish message).nonce ≡ message.req_body.nonce
+unfolding tgs_wish
+nonce_by true message = refl
+nonce_by false message = refl
+
+pub wish_nonce : (message : KdcReq) → (wish_of message).nonce ≡ message.req_body.nonce
+wish_nonce message = nonce_by (is_as_req message) message
+
+-- ---- the ticket's name
 
 asked_name : (body : KdcReqBody) (server : Principal) → kdc_req_body.Fits body → body.sname ≡ Some server → IsTicketName body.realm server
 unfolding kdc_req_body
@@ -94,7 +134,34 @@ asked_name body server fits e =
       parts = parts_only server.kind server.parts name.1.1.0;
     }
 
+own_name : (realm : RealmRec) (account : AccountRec) → IsRealm realm → IsRealmInRange realm → IsMember account → IsTicketName realm.name (principal_of_account realm account)
+own_name realm account h k member = record { realm = realm_is realm h k; same = refl; kind = kind_fits; parts = lone_part account.name (account_is account member.form member.range) }
+
+name_by : (b : Bool) (realm : List ℕ) (own asked : Principal) → IsTicketName realm own → IsTicketName realm asked → IsTicketName realm (if b then own else asked)
+name_by true realm own asked h k = h
+name_by false realm own asked h k = k
+
+of_account : (dir : DirectoryValue) (i at : ℕ) (realm : RealmRec) (asked : Principal) (found : Option AccountRec) → IsDirectory dir → slice_get dir.realms i ≡ Some realm
+    → slice_get realm.accounts at ≡ found → IsTicketName realm.name asked → IsTicketName realm.name (unwrap_or (option_map (account_name realm asked) found) asked)
+of_account dir i at realm asked None h is was named = named
+of_account dir i at realm asked (Some account) h is was named =
+    let form = at_index IsRealm dir.realms i realm h.consistent.forms.realms is in
+    let range = at_index IsRealmInRange dir.realms i realm h.in_range.realms is in
+    name_by (is_some (enterprise_user asked)) realm.name (principal_of_account realm account) asked (own_name realm account form range (member_in dir i at realm account h is was)) named
+
+named_by_aim : (dir : DirectoryValue) (i : ℕ) (realm : RealmRec) (asked : Principal) (aim : Aim) → IsDirectory dir → slice_get dir.realms i ≡ Some realm → IsTicketName realm.name asked
+    → IsTicketName realm.name (ticket_name realm asked aim)
+named_by_aim dir i realm asked Krbtgt h is named = named
+named_by_aim dir i realm asked (Hop trust) h is named = named
+named_by_aim dir i realm asked (Account at) h is named = of_account dir i at realm asked (slice_get realm.accounts at) h is refl named
+
 -- ---- terms
+
+-- terms that a ticket can have
+pub record AreTerms (terms : Terms) : Type 0 where
+  pub flags : terms.flags < 2 ^ 32
+  pub start : terms.start ≤ 253402300799
+  pub end : terms.end ≤ 253402300799
 
 flags_small : (forwardable stamped : Bool) → bit_if 1 forwardable + bit_if 9 true + bit_if 10 stamped < 2 ^ 32
 flags_small true true = omega arith
@@ -115,174 +182,140 @@ life_few dir i realm at h =
     let few = h.few_life in
     omega (arith, is, few)
 
--- terms that a ticket can have
-record AreTerms (terms : Terms) : Type 0 where
-  flags : terms.flags < 2 ^ 32
-  start : terms.start ≤ 253402300799
-  end : terms.end ≤ 253402300799
-
-terms_are : (dir : DirectoryValue) (i : ℕ) (realm : RealmRec) (now : Moment) (req : KdcReq) → slice_get dir.realms i ≡ Some realm → IsRealm realm → AreTerms (as_terms (as_ask dir i now req))
+as_terms_are : (dir : DirectoryValue) (i : ℕ) (realm : RealmRec) (now : Moment) (req : KdcReq) → slice_get dir.realms i ≡ Some realm → IsRealm realm
+    → AreTerms (as_terms (as_ask dir i now req))
 unfolding as_ask
-terms_are dir i realm now req at h =
+as_terms_are dir i realm now req at h =
     let early = now.in_range in
     let life = life_few dir i realm at h in
     let end = end_early req.req_body.till (now.secs + longest_life dir i) in
     record { flags = flags_small _ _; start = omega (arith, early); end = omega (arith, early, life, end) }
 
+two_flags_small : (forwardable stamped : Bool) → bit_if 1 forwardable + bit_if 10 stamped < 2 ^ 32
+two_flags_small true true = omega arith
+two_flags_small true false = omega arith
+two_flags_small false true = omega arith
+two_flags_small false false = omega arith
+
+one_flag_small : (forwardable : Bool) → bit_if 1 forwardable < 2 ^ 32
+one_flag_small true = omega arith
+one_flag_small false = omega arith
+
+-- terms of a TGS-REQ, with flags that are small
+tgs_terms_are : (dir : DirectoryValue) (i : ℕ) (realm : RealmRec) (now : Moment) (request : Request) (rec : TicketRec) (aim : Aim) (flags : ℕ) → slice_get dir.realms i ≡ Some realm → IsRealm realm
+    → flags < 2 ^ 32 → AreTerms (tgs.terms_with dir i now request.wish rec aim flags)
+tgs_terms_are dir i realm now request rec aim flags at h small =
+    let early = now.in_range in
+    let life = life_few dir i realm at h in
+    let end = end_early request.wish.till (min (now.secs + tgs.longest_life dir i) rec.end) in
+    record { flags = small; start = omega (arith, early); end = omega (arith, early, life, end) }
+
+ordinary_by_aim : (dir : DirectoryValue) (now : Moment) (request : Request) (rec : TicketRec) (realm : RealmRec) (terms : Terms) → slice_get dir.realms request.realm ≡ Some realm → IsRealm realm
+    → option_map (ordinary_terms dir request.realm now request.wish rec) (aim_of dir request.realm request.wish) ≡ Some terms → AreTerms terms
+ordinary_by_aim dir now request rec realm terms at h e =
+    let made = mapped_of (aim_of dir request.realm request.wish) (ordinary_terms dir request.realm now request.wish rec) terms e in
+    subst AreTerms made.is (tgs_terms_are dir request.realm realm now request rec made.value _ at h (two_flags_small _ _))
+
+self_by_aim : (dir : DirectoryValue) (now : Moment) (request : Request) (rec : TicketRec) (realm : RealmRec) (terms : Terms) → slice_get dir.realms request.realm ≡ Some realm → IsRealm realm
+    → option_map (self_terms dir request.realm now request.wish rec) (aim_of dir request.realm request.wish) ≡ Some terms → AreTerms terms
+self_by_aim dir now request rec realm terms at h e =
+    let made = mapped_of (aim_of dir request.realm request.wish) (self_terms dir request.realm now request.wish rec) terms e in
+    subst AreTerms made.is (tgs_terms_are dir request.realm realm now request rec made.value _ at h (one_flag_small _))
+
+pub terms_are : (dir : DirectoryValue) (now : Moment) (request : Request) (realm : RealmRec) (grounds : Grounds) (terms : Terms) → slice_get dir.realms request.realm ≡ Some realm → IsRealm realm
+    → terms_of dir now request grounds ≡ Some terms → AreTerms terms
+terms_are dir now request realm (ByAccount account) terms at h e =
+    subst AreTerms (some_is _ terms e) (as_terms_are dir request.realm realm now request.message at h)
+terms_are dir now request realm (ByHeader shown) terms at h e = ordinary_by_aim dir now request shown.rec realm terms at h e
+terms_are dir now request realm (ForUser shown account asked) terms at h e = self_by_aim dir now request shown.rec realm terms at h e
+
 -- ---- the grant
 
 -- a request's parts, as a directory has them
-pub record IsAsked (dir : DirectoryValue) (req : KdcReq) (i : ℕ) (realm : RealmRec) (server : Principal) (account : AccountRec) : Type 0 where
+pub record IsAsked (dir : DirectoryValue) (req : KdcReq) (i : ℕ) (realm : RealmRec) (server : Principal) : Type 0 where
   pub known : realm_named dir req.req_body.realm ≡ Some i
   pub at : slice_get dir.realms i ≡ Some realm
   pub named : req.req_body.sname ≡ Some server
-  pub asks : client_account dir i req.req_body.cname ≡ Some account
 
-abbrev pub account_grant : RealmRec → Request → Principal → Terms → Holding → AccountRec → Grant
-account_grant realm request server terms held account = record { realm = realm; request = request; server = server; terms = terms; holding = held; grounds = ByAccount account }
+abbrev pub grant_made : RealmRec → KdcReq → ℕ → Principal → Terms → Holding → Grounds → Grant
+grant_made realm req i server terms held grounds =
+    record { realm = realm; request = request_to req i; server = ticket_name realm server terms.aim; terms = terms; holding = held; grounds = grounds }
 
-body_fits : (req : KdcReq) → kdc_req.Fits req → IsBytes req.body_bytes → kdc_req_body.Fits req.req_body
+pub body_fits : (req : KdcReq) → kdc_req.Fits req → IsBytes req.body_bytes → kdc_req_body.Fits req.req_body
 unfolding kdc_req
 body_fits req fits bytes = kdc_req_body_lawful.fits req.body_bytes req.req_body bytes fits.1.1.1.1.0
 
-pub asked_is_grant : (dir : DirectoryValue) (now : Moment) (req : KdcReq) (i : ℕ) (realm : RealmRec) (server : Principal) (held : Holding) (account : AccountRec)
-    → IsDirectory dir → kdc_req.Fits req → IsBytes req.body_bytes → IsAsked dir req i realm server account
-    → IsGrant (account_grant realm (request_to req i) server (as_terms (as_ask dir i now req)) held account)
+pub asked_is_grant : (dir : DirectoryValue) (req : KdcReq) (i : ℕ) (realm : RealmRec) (server : Principal) (terms : Terms) (held : Holding) (grounds : Grounds)
+    → IsDirectory dir → kdc_req.Fits req → IsBytes req.body_bytes → IsAsked dir req i realm server → AreTerms terms → IsGrounds grounds
+    → IsGrant (grant_made realm req i server terms held grounds)
 unfolding kdc_req_body
-asked_is_grant dir now req i realm server held account h fits bytes asked =
+asked_is_grant dir req i realm server terms held grounds h fits bytes asked are stands =
     let form = at_index IsRealm dir.realms i realm h.consistent.forms.realms asked.at in
     let range = at_index IsRealmInRange dir.realms i realm h.in_range.realms asked.at in
-    let terms = terms_are dir i realm now req asked.at form in
     let body = body_fits req fits bytes in
+    let name : IsTicketName realm.name server =
+    subst (λ (name : List ℕ). IsTicketName name server) (sym (named_realm dir req.req_body.realm i realm asked.known asked.at)) (asked_name req.req_body server body asked.named) in
     record {
       realm = form;
       range = range;
-      grounds = (
-        client_in IsAccount dir i req.req_body.cname realm account form.accounts asked.at asked.asks,
-        client_in IsAccountInRange dir i req.req_body.cname realm account range.accounts asked.at asked.asks,
-      );
-      server = subst (λ (name : List ℕ). IsTicketName name server) (sym (named_realm dir req.req_body.realm i realm asked.known asked.at)) (asked_name req.req_body server body asked.named);
-      nonce = body.1.1.1.1.1.1.1.1.0;
-      flags = terms.flags;
-      start = terms.start;
-      end = terms.end;
+      grounds = stands;
+      server = named_by_aim dir i realm server terms.aim h asked.at name;
+      nonce = rw (wish_nonce req) body.1.1.1.1.1.1.1.1.0;
+      flags = are.flags;
+      start = are.start;
+      end = are.end;
     }
 
--- ---- the steps of grant_of
+-- what is granted on these grounds, of what is looked up
+abbrev granted_by : Request → Grounds → Terms → Option RealmRec → Option Principal → Option Holding → Option Grant
+granted_by request grounds terms realm server holding =
+    realm >>= λ realm. server >>= λ server. holding >>= λ holding.
+    Some (record { realm = realm; request = request; server = ticket_name realm server terms.aim; terms = terms; holding = holding; grounds = grounds })
 
-initial : (b : Bool) → b ≡ true → (req : KdcReq) → is_as_req req ≡ b → branch_of req ≡ Initial
-initial b h req e = rw (e ∙ h) refl
+looked_up : (dir : DirectoryValue) (req : KdcReq) (i : ℕ) (grounds : Grounds) (terms : Terms)
+    → grant_with dir (request_to req i) grounds terms ≡ granted_by (request_to req i) grounds terms (slice_get dir.realms i) req.req_body.sname (aim_holding dir i terms.aim)
+looked_up dir req i grounds terms =
+    ap (λ (server : Option Principal). granted_by (request_to req i) grounds terms (slice_get dir.realms i) server (aim_holding dir i terms.aim)) (wish_server req)
 
--- what a request is granted by these terms, where all that is looked up is there
-abbrev pub granted_by : Request → Terms → Option RealmRec → Option Principal → Option Holding → Option AccountRec → Option Grant
-granted_by request terms realm server holding account =
-    realm >>= λ realm. server >>= λ server. holding >>= λ holding. option_map ByAccount account >>= λ grounds.
-    Some (record { realm = realm; request = request; server = server; terms = terms; holding = holding; grounds = grounds })
+by_no_server : (request : Request) (grounds : Grounds) (terms : Terms) (realm : Option RealmRec) (holding : Option Holding) → granted_by request grounds terms realm None holding ≡ None
+by_no_server request grounds terms None holding = refl
+by_no_server request grounds terms (Some realm) holding = refl
 
-pub initial_grant : (dir : DirectoryValue) (now : Moment) (req : KdcReq) (i : ℕ) → is_as_req req ≡ true
-    → grant_of dir now (request_to req i)
-    ≡ granted_by (request_to req i) (as_terms (as_ask dir i now req)) (slice_get dir.realms i) req.req_body.sname (aim_holding dir i Krbtgt) (client_account dir i req.req_body.cname)
-initial_grant dir now req i kind =
-    let branch = initial true refl req kind in
-    λ k. slice_get dir.realms i >>= λ realm. req.req_body.sname >>= λ server. terms_of dir now (request_to req i) (branch k) >>= λ terms. aim_holding dir i terms.aim >>= λ holding.
-    grounds_of dir (request_to req i) (branch k) >>= λ grounds.
-    Some (record { realm = realm; request = request_to req i; server = server; terms = terms; holding = holding; grounds = grounds })
-
-by_no_server : (request : Request) (terms : Terms) (realm : Option RealmRec) (holding : Option Holding) (account : Option AccountRec) → granted_by request terms realm None holding account ≡ None
-by_no_server request terms None holding account = refl
-by_no_server request terms (Some realm) holding account = refl
-
-by_no_holding : (request : Request) (terms : Terms) (realm : Option RealmRec) (server : Option Principal) (account : Option AccountRec) → granted_by request terms realm server None account ≡ None
-by_no_holding request terms None server account = refl
-by_no_holding request terms (Some realm) None account = refl
-by_no_holding request terms (Some realm) (Some server) account = refl
-
-by_no_account : (request : Request) (terms : Terms) (realm : Option RealmRec) (server : Option Principal) (holding : Option Holding) → granted_by request terms realm server holding None ≡ None
-by_no_account request terms None server holding = refl
-by_no_account request terms (Some realm) None holding = refl
-by_no_account request terms (Some realm) (Some server) None = refl
-by_no_account request terms (Some realm) (Some server) (Some holding) = refl
+by_no_holding : (request : Request) (grounds : Grounds) (terms : Terms) (realm : Option RealmRec) (server : Option Principal) → granted_by request grounds terms realm server None ≡ None
+by_no_holding request grounds terms None server = refl
+by_no_holding request grounds terms (Some realm) None = refl
+by_no_holding request grounds terms (Some realm) (Some server) = refl
 
 -- where the server is not named
-pub no_server : (dir : DirectoryValue) (now : Moment) (req : KdcReq) (i : ℕ) → is_as_req req ≡ true → req.req_body.sname ≡ None → grant_of dir now (request_to req i) ≡ None
-no_server dir now req i kind none =
-    initial_grant dir now req i kind
-    ∙ (λ k. granted_by (request_to req i) (as_terms (as_ask dir i now req)) (slice_get dir.realms i) (none k) (aim_holding dir i Krbtgt) (client_account dir i req.req_body.cname))
-    ∙ by_no_server (request_to req i) (as_terms (as_ask dir i now req)) (slice_get dir.realms i) (aim_holding dir i Krbtgt) (client_account dir i req.req_body.cname)
+pub no_server : (dir : DirectoryValue) (req : KdcReq) (i : ℕ) (grounds : Grounds) (terms : Terms) → req.req_body.sname ≡ None → None ≡ grant_with dir (request_to req i) grounds terms
+no_server dir req i grounds terms none =
+    sym (
+    looked_up dir req i grounds terms
+    ∙ ap (λ (server : Option Principal). granted_by (request_to req i) grounds terms (slice_get dir.realms i) server (aim_holding dir i terms.aim)) none
+    ∙ by_no_server (request_to req i) grounds terms (slice_get dir.realms i) (aim_holding dir i terms.aim)
+    )
 
 -- where the ticket is sealed for nobody
-pub no_holding : (dir : DirectoryValue) (now : Moment) (req : KdcReq) (i : ℕ) → is_as_req req ≡ true → aim_holding dir i Krbtgt ≡ None → grant_of dir now (request_to req i) ≡ None
-no_holding dir now req i kind none =
-    initial_grant dir now req i kind
-    ∙ (λ k. granted_by (request_to req i) (as_terms (as_ask dir i now req)) (slice_get dir.realms i) req.req_body.sname (none k) (client_account dir i req.req_body.cname))
-    ∙ by_no_holding (request_to req i) (as_terms (as_ask dir i now req)) (slice_get dir.realms i) req.req_body.sname (client_account dir i req.req_body.cname)
-
--- where the client is no account
-pub no_account : (dir : DirectoryValue) (now : Moment) (req : KdcReq) (i : ℕ) → is_as_req req ≡ true → client_account dir i req.req_body.cname ≡ None
-    → grant_of dir now (request_to req i) ≡ None
-no_account dir now req i kind none =
-    initial_grant dir now req i kind
-    ∙ (λ k. granted_by (request_to req i) (as_terms (as_ask dir i now req)) (slice_get dir.realms i) req.req_body.sname (aim_holding dir i Krbtgt) (none k))
-    ∙ by_no_account (request_to req i) (as_terms (as_ask dir i now req)) (slice_get dir.realms i) req.req_body.sname (aim_holding dir i Krbtgt)
+pub no_holding : (dir : DirectoryValue) (req : KdcReq) (i : ℕ) (grounds : Grounds) (terms : Terms) → aim_holding dir i terms.aim ≡ None → None ≡ grant_with dir (request_to req i) grounds terms
+no_holding dir req i grounds terms none =
+    sym (
+    looked_up dir req i grounds terms
+    ∙ ap (granted_by (request_to req i) grounds terms (slice_get dir.realms i) req.req_body.sname) none
+    ∙ by_no_holding (request_to req i) grounds terms (slice_get dir.realms i) req.req_body.sname
+    )
 
 -- where all is there
-pub grant_found : (dir : DirectoryValue) (now : Moment) (req : KdcReq) (i : ℕ) (realm : RealmRec) (server : Principal) (held : Holding) (account : AccountRec)
-    → is_as_req req ≡ true → IsAsked dir req i realm server account → aim_holding dir i Krbtgt ≡ Some held
-    → grant_of dir now (request_to req i) ≡ Some (account_grant realm (request_to req i) server (as_terms (as_ask dir i now req)) held account)
-grant_found dir now req i realm server held account kind asked holds =
-    initial_grant dir now req i kind
-    ∙ (λ k. granted_by (request_to req i) (as_terms (as_ask dir i now req)) (asked.at k) (asked.named k) (holds k) (asked.asks k))
+pub grant_found : (dir : DirectoryValue) (req : KdcReq) (i : ℕ) (realm : RealmRec) (server : Principal) (terms : Terms) (held : Holding) (grounds : Grounds) → IsAsked dir req i realm server
+    → aim_holding dir i terms.aim ≡ Some held → Some (grant_made realm req i server terms held grounds) ≡ grant_with dir (request_to req i) grounds terms
+grant_found dir req i realm server terms held grounds asked holds =
+    sym (looked_up dir req i grounds terms ∙ (λ k. granted_by (request_to req i) grounds terms (asked.at k) (asked.named k) (holds k)))
 
--- ---- what is granted is found
-
--- what an account is granted
-record IsAccountGrant (dir : DirectoryValue) (now : Moment) (request : Request) (terms : Terms) (grounds : Grounds) : Type 0 where
-  account : AccountRec
-  found : client_account dir request.realm request.message.req_body.cname ≡ Some account
-  grounds_are : ByAccount account ≡ grounds
-  terms_are : as_terms (as_ask dir request.realm now request.message) ≡ terms
-
-mapped_some : (dir : DirectoryValue) (now : Moment) (request : Request) (terms : Terms) (grounds : Grounds) (found : Option AccountRec)
-    → client_account dir request.realm request.message.req_body.cname ≡ found → option_map ByAccount found ≡ Some grounds → as_terms (as_ask dir request.realm now request.message) ≡ terms
-    → IsAccountGrant dir now request terms grounds
-mapped_some dir now request terms grounds None was is t = absurd cc
-mapped_some dir now request terms grounds (Some account) was is t = record { account = account; found = was; grounds_are = some_is _ _ is; terms_are = t }
-
-by_branch : (dir : DirectoryValue) (now : Moment) (request : Request) (branch : Branch) (terms : Terms) (grounds : Grounds) → terms_of dir now request branch ≡ Some terms
-    → grounds_of dir request branch ≡ Some grounds → IsAccountGrant dir now request terms grounds
-by_branch dir now request Initial terms grounds t g =
-    mapped_some dir now request terms grounds (client_account dir request.realm request.message.req_body.cname) refl g (some_is _ _ t)
-by_branch dir now request Ordinary terms grounds t g = absurd cc
-by_branch dir now request SelfTicket terms grounds t g = absurd cc
-by_branch dir now request Proxy terms grounds t g = absurd cc
-
--- what is granted to a request that was read, in the realm of its name
-pub granted_is_grant : (dir : DirectoryValue) (now : Moment) (req : KdcReq) (i : ℕ) (grant : Grant) → IsDirectory dir → kdc_req.Fits req → IsBytes req.body_bytes
-    → realm_named dir req.req_body.realm ≡ Some i → grant_of dir now (request_to req i) ≡ Some grant → IsGrant grant
-granted_is_grant dir now req i grant h fits bytes known e =
-    let request : Request = request_to req i in
+-- what is granted on grounds that are known
+pub granted_with : (dir : DirectoryValue) (req : KdcReq) (i : ℕ) (grounds : Grounds) (terms : Terms) (grant : Grant) → IsDirectory dir → kdc_req.Fits req → IsBytes req.body_bytes
+    → realm_named dir req.req_body.realm ≡ Some i → AreTerms terms → IsGrounds grounds → grant_with dir (request_to req i) grounds terms ≡ Some grant → IsGrant grant
+granted_with dir req i grounds terms grant h fits bytes known are stands e =
     let realm = step_of (slice_get dir.realms i) _ grant e in
-    let server = step_of req.req_body.sname _ grant realm.is in
-    let terms = step_of (terms_of dir now request (branch_of req)) _ grant server.is in
-    let holding = step_of (aim_holding dir i terms.value.aim) _ grant terms.is in
-    let grounds = step_of (grounds_of dir request (branch_of req)) _ grant holding.is in
-    let of = by_branch dir now request (branch_of req) terms.value grounds.value terms.was grounds.was in
-    let asked : IsAsked dir req i realm.value server.value of.account = record { known = known; at = realm.was; named = server.was; asks = of.found } in
-    let made = asked_is_grant dir now req i realm.value server.value holding.value of.account h fits bytes asked in
-    let is : account_grant realm.value request server.value (as_terms (as_ask dir i now req)) holding.value of.account ≡ grant =
-    (λ k. record { realm = realm.value; request = request; server = server.value; terms = of.terms_are k; holding = holding.value; grounds = of.grounds_are k }) ∙ some_is _ _ grounds.is in
-    subst IsGrant is made
-
-mapped_request : (req : KdcReq) (found : Option ℕ) (request : Request) → option_map (request_to req) found ≡ Some request → IsStep found (λ i. Some (request_to req i)) request
-mapped_request req None request e = absurd cc
-mapped_request req (Some i) request e = record { value = i; was = refl; is = e }
-
--- what is granted to bytes
-pub granted_in_is_grant : (dir : DirectoryValue) (now : Moment) (bytes : List ℕ) (grant : Grant) → IsDirectory dir → IsBytes bytes → grant_in dir now bytes ≡ Some grant → IsGrant grant
-unfolding grant_in request_in
-granted_in_is_grant dir now bytes grant h are_bytes e =
-    let request = step_of (request_in dir bytes) (grant_of dir now) grant e in
-    let message = step_of (message_in bytes) (request_of dir) request.value request.was in
-    let at = mapped_request message.value (realm_named dir message.value.req_body.realm) request.value message.is in
-    let read = message_is_read bytes message.value are_bytes message.was in
-    granted_is_grant dir now message.value at.value grant h read.fits read.bytes at.was (subst (λ (r : Request). grant_of dir now r ≡ Some grant) (sym (some_is _ _ at.is)) request.is)
+    let server = step_of (wish_of req).server _ grant realm.is in
+    let holding = step_of (aim_holding dir i terms.aim) _ grant server.is in
+    let asked : IsAsked dir req i realm.value server.value = record { known = known; at = realm.was; named = sym (wish_server req) ∙ server.was } in
+    subst IsGrant (some_is _ _ holding.is) (asked_is_grant dir req i realm.value server.value terms holding.value grounds h fits bytes asked are stands)

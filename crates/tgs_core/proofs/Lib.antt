@@ -1,10 +1,16 @@
 pub mod Askers
+pub mod EchoForms
 pub mod ErrorForms
 pub mod FoundGrants
+pub mod GivenGrants
+pub mod GrantedRequests
+pub mod JudgedRequests
 pub mod Openings
 pub mod ReadRequests
 pub mod ReceivedRequests
 pub mod ReplyForms
+pub mod ShownHeaders
 pub mod SoundGrants
+pub mod TgsVerdicts
 pub mod WrittenErrors
 pub mod WrittenReplies

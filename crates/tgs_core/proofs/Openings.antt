@@ -1,5 +1,5 @@
--- How a request is judged by itself, and then as an AS-REQ.
-use Rattle.std.proofs.Common.{◌≡◌, ◌∙◌, ℕ, ◌<◌, ◌≤◌, Bool, true, false, List, [], ◌∷◌, ◌++◌, drop, length, Option, Some, None, Ok, Err, ◌≢◌, refl, sym, ap, subst, arith}
+-- How a request is judged by itself, and then by its branch.
+use Rattle.std.proofs.Common.{◌≡◌, ◌∙◌, ℕ, ◌<◌, ◌≤◌, Bool, true, false, List, [], ◌∷◌, ◌++◌, drop, length, Option, Some, None, Ok, Err, ◌≢◌, refl, sym, ap, arith}
 use Rattle.std.specs.Prelude.{is_some, if◌then◌else◌, option_map}
 use Rattle.std.proofs.lemmas.Bool.Decides.{nat_tests}
 use Rattle.kdc_prelude.specs.Options.{holds_of}
@@ -7,16 +7,11 @@ use Rattle.kdc_prelude.specs.Steps.{◌>>=◌}
 use Rattle.kdc_prelude.specs.Verdicts.{first_failing, ◌or_else◌}
 use Rattle.krb_names.specs.declared.moment.Moment.{Moment}
 use Rattle.der_core.specs.Codec.{whole}
-use Rattle.der_core.specs.CodecLaws.{alone_lawful}
-use Rattle.der_core.specs.Laws.{IsBytes}
-use Rattle.der_core.specs.Sizes.{size}
-use Rattle.der_forms.specs.Choices.{tag_in}
 use Rattle.krb_tickets.specs.declared.fault.Malformed.{Malformed}
 use Rattle.krb_tickets.specs.declared.fault.TicketFault.TheVariants as faults
 use Rattle.krb_tickets.specs.Told.{told}
 use Rattle.krb_messages.specs.declared.kdc_req.KdcReq.{KdcReq}
-use Rattle.krb_messages.specs.KdcReq.{is_as_req, kdc_req}
-use Rattle.krb_messages.specs.Laws.{kdc_req_lawful}
+use Rattle.krb_messages.specs.KdcReq.{kdc_req}
 use Rattle.kdc_records.specs.declared.decision.Decision.{Decision}
 use Rattle.kdc_records.specs.declared.decision.Decision.TheVariants.{Grant, Deny}
 use Rattle.kdc_records.specs.declared.decision.Terms.{Terms}
@@ -31,24 +26,24 @@ use Rattle.as_core.specs.AsRequests.{as_ask}
 use Rattle.as_core.specs.AsRules.{AsGrants, as_decision, as_rules, as_terms}
 use Rattle.as_core.proofs.Grants.{granted}
 use Rattle.as_core.proofs.Told.{told_refused, told_whole}
+use Rattle.tgs_requests.specs.Askings.{branch_of}
 use Rattle.tgs_core.specs.declared.answered.Answered.{Answered}
 use Rattle.tgs_core.specs.Answers.{answered_by, answered_long, answered_to, noted_branch}
 use Rattle.tgs_core.specs.Errors.{error_bytes}
-use Rattle.tgs_core.specs.Grants.{Grant as Granted, grant_in, grant_of}
+use Rattle.tgs_core.specs.Grants.{grant_in, grant_of}
 use Rattle.tgs_core.specs.Replies.{reply_bytes}
-use Rattle.tgs_core.specs.Requests.{Request, branch_of, is_tagged, is_version_5, is_within_limit, message_in, message_told, opening_rules, realm_is_known, request_in, request_of, request_to}
-use Rattle.tgs_core.specs.Verdicts.{OpeningGrants, rules_of, rules_of_branch, rules_of_request, verdict}
-use Rattle.tgs_core.proofs.ReadRequests.{told_some, within_some}
+use Rattle.tgs_core.specs.Requests.{Request, is_tagged, is_version_5, is_within_limit, message_in, message_told, opening_rules, realm_is_known, request_in, request_of, request_to}
+use Rattle.tgs_core.specs.Verdicts.{OpeningGrants, rules_of_branch, rules_of_request, verdict}
 
 -- ---- tables
 
-failing_append : {R : Type 0} (xs ys : List (R × Bool)) → first_failing (xs ++ ys) ≡ (first_failing xs or_else first_failing ys)
+pub failing_append : {R : Type 0} (xs ys : List (R × Bool)) → first_failing (xs ++ ys) ≡ (first_failing xs or_else first_failing ys)
 failing_append [] ys = refl
 failing_append ((rule, true) ∷ xs) ys = failing_append xs ys
 failing_append ((rule, false) ∷ xs) ys = refl
 
 -- none of two fails
-or_none : {R : Type 0} (a b : Option R) → (a or_else b) ≡ None → (a ≡ None) × (b ≡ None)
+pub or_none : {R : Type 0} (a b : Option R) → (a or_else b) ≡ None → (a ≡ None) × (b ≡ None)
 or_none None b h = (refl, h)
 or_none (Some rule) b h = absurd (cc)
 
@@ -57,7 +52,7 @@ failing_first rule true rows e = absurd (cc)
 failing_first rule false rows e = refl
 
 -- the first row holds, and no later one fails
-passes : {R : Type 0} (rule : R) (b : Bool) (rows : List (R × Bool)) → first_failing ((rule, b) ∷ rows) ≡ None → (b ≡ true) × (first_failing rows ≡ None)
+pub passes : {R : Type 0} (rule : R) (b : Bool) (rows : List (R × Bool)) → first_failing ((rule, b) ∷ rows) ≡ None → (b ≡ true) × (first_failing rows ≡ None)
 passes rule true rows h = (refl, h)
 passes rule false rows h = absurd (cc)
 
@@ -76,19 +71,6 @@ refused_told bytes fault within h =
     let test = ap (λ (b : Bool). if b then message_told (whole kdc_req bytes) else None) within in
     sym (test ∙ ap message_told (told_refused (whole kdc_req bytes) fault h).is)
 
--- ---- the kind of a request
-
-headed : (b : Bool) (bytes rest : List ℕ) → bytes ≡ tag_in 0x6a 0x6c b ∷ rest → is_tagged bytes ≡ true → b ≡ true
-headed true bytes rest e h = refl
-headed false bytes rest e h = let other : is_tagged (0x6c ∷ rest) ≡ true = subst (λ (bs : List ℕ). is_tagged bs ≡ true) e h in absurd (cc)
-
-pub tagged_is_as_req : (bytes : List ℕ) (message : KdcReq) → IsBytes bytes → message_in bytes ≡ Some message → is_tagged bytes ≡ true → is_as_req message ≡ true
-unfolding message_in kdc_req
-tagged_is_as_req bytes message are_bytes e h =
-    let read = told_some (whole kdc_req bytes) message (within_some (is_within_limit bytes) (message_told (whole kdc_req bytes)) message e) in
-    let d = (alone_lawful kdc_req kdc_req_lawful).found (record { place = 0; bytes = bytes }) message are_bytes read in
-    headed (is_as_req message) bytes (size (length d.content) ++ d.content) d.outside.spelt h
-
 -- ---- the verdict
 
 pub verdict_denied : (dir : DirectoryValue) (now : Moment) (bytes : List ℕ) (rule : Rule) → first_failing (opening_rules dir bytes) ≡ Some rule → verdict dir now bytes ≡ Some rule
@@ -104,49 +86,47 @@ verdict_opened dir now bytes h =
     let later = first_failing (rules_of_request dir now (request_in dir bytes)) in
     failing_append (opening_rules dir bytes) (rules_of_request dir now (request_in dir bytes)) ∙ ap (λ (f : Option Rule). f or_else later) h
 
--- what was read, and is asked of the realm at an index
-pub record IsOpened (dir : DirectoryValue) (bytes : List ℕ) (message : KdcReq) (realm : ℕ) : Type 0 where
+-- what was read, and is asked of the realm at an index, in a branch
+pub record IsOpened (dir : DirectoryValue) (bytes : List ℕ) (message : KdcReq) (realm : ℕ) (branch : Branch) : Type 0 where
   pub read : message_in bytes ≡ Some message
   pub found : realm_named dir message.req_body.realm ≡ Some realm
-  pub kind : is_as_req message ≡ true
+  pub asked : branch_of message ≡ branch
 
-request_is : (dir : DirectoryValue) (bytes : List ℕ) (message : KdcReq) (realm : ℕ) → IsOpened dir bytes message realm → request_in dir bytes ≡ Some (request_to message realm)
+request_is : (dir : DirectoryValue) (bytes : List ℕ) (message : KdcReq) (realm : ℕ) (branch : Branch) → IsOpened dir bytes message realm branch
+    → request_in dir bytes ≡ Some (request_to message realm)
 unfolding request_in
-request_is dir bytes message realm h =
+request_is dir bytes message realm branch h =
     ap (λ (m : Option KdcReq). m >>= request_of dir) h.read ∙ ap (option_map (request_to message)) h.found
 
-initial : (b : Bool) → b ≡ true → (message : KdcReq) → is_as_req message ≡ b → branch_of message ≡ Initial
-initial b h message e = rw (e ∙ h) refl
-
-as_verdict : (dir : DirectoryValue) (now : Moment) (bytes : List ℕ) (message : KdcReq) (realm : ℕ) → first_failing (opening_rules dir bytes) ≡ None → IsOpened dir bytes message realm
-    → verdict dir now bytes ≡ first_failing (as_rules (as_ask dir realm now message))
-as_verdict dir now bytes message realm opens h =
+pub branch_verdict : (dir : DirectoryValue) (now : Moment) (bytes : List ℕ) (message : KdcReq) (realm : ℕ) (branch : Branch) → first_failing (opening_rules dir bytes) ≡ None
+    → IsOpened dir bytes message realm branch → verdict dir now bytes ≡ first_failing (rules_of_branch dir now (request_to message realm) branch)
+branch_verdict dir now bytes message realm branch opens h =
     let request = request_to message realm in
-    let branch : branch_of message ≡ Initial = initial true refl message h.kind in
     verdict_opened dir now bytes opens
-    ∙ ap (λ (r : Option Request). first_failing (rules_of_request dir now r)) (request_is dir bytes message realm h)
-    ∙ ap (λ (b : Branch). first_failing (rules_of_branch dir now request b)) branch
+    ∙ ap (λ (r : Option Request). first_failing (rules_of_request dir now r)) (request_is dir bytes message realm branch h)
+    ∙ ap (λ (b : Branch). first_failing (rules_of_branch dir now request b)) h.asked
 
-decided_deny : (failing : Option Rule) (terms : Terms) (rule : Rule) → decided failing terms ≡ Deny rule → failing ≡ Some rule
+pub decided_deny : (failing : Option Rule) (terms : Terms) (rule : Rule) → decided failing terms ≡ Deny rule → failing ≡ Some rule
 decided_deny None terms rule h = absurd (cc)
 decided_deny (Some other) terms rule h = cc
 
-decided_grant : (failing : Option Rule) (terms granted : Terms) → decided failing terms ≡ Grant granted → (failing ≡ None) × (granted ≡ terms)
+pub decided_grant : (failing : Option Rule) (terms granted : Terms) → decided failing terms ≡ Grant granted → (failing ≡ None) × (granted ≡ terms)
 decided_grant None terms granted h = (refl, cc)
 decided_grant (Some other) terms granted h = absurd (cc)
 
 pub as_denied : (dir : DirectoryValue) (now : Moment) (bytes : List ℕ) (message : KdcReq) (realm : ℕ) (rule : Rule) → first_failing (opening_rules dir bytes) ≡ None
-    → IsOpened dir bytes message realm → Deny rule ≡ as_decision (as_ask dir realm now message) → verdict dir now bytes ≡ Some rule
+    → IsOpened dir bytes message realm Initial → Deny rule ≡ as_decision (as_ask dir realm now message) → verdict dir now bytes ≡ Some rule
 as_denied dir now bytes message realm rule opens h e =
     let ask = as_ask dir realm now message in
-    as_verdict dir now bytes message realm opens h ∙ decided_deny (first_failing (as_rules ask)) (as_terms ask) rule (sym e)
+    branch_verdict dir now bytes message realm Initial opens h ∙ decided_deny (first_failing (as_rules ask)) (as_terms ask) rule (sym e)
 
 pub as_granted : (dir : DirectoryValue) (now : Moment) (bytes : List ℕ) (message : KdcReq) (realm : ℕ) (terms : Terms) → first_failing (opening_rules dir bytes) ≡ None
-    → IsOpened dir bytes message realm → Grant terms ≡ as_decision (as_ask dir realm now message) → (verdict dir now bytes ≡ None) × (terms ≡ as_terms (as_ask dir realm now message))
+    → IsOpened dir bytes message realm Initial → Grant terms ≡ as_decision (as_ask dir realm now message)
+    → (verdict dir now bytes ≡ None) × (terms ≡ as_terms (as_ask dir realm now message))
 as_granted dir now bytes message realm terms opens h e =
     let ask = as_ask dir realm now message in
     let both = decided_grant (first_failing (as_rules ask)) (as_terms ask) terms (sym e) in
-    (as_verdict dir now bytes message realm opens h ∙ both.0, both.1)
+    (branch_verdict dir now bytes message realm Initial opens h ∙ both.0, both.1)
 
 -- ---- the answer
 
@@ -162,20 +142,17 @@ unfolding answered_to
 answered_denied dir now block bytes message rule read h =
     ap (λ (m : Option KdcReq). denial dir now m rule) read ∙ ap (answered_by dir now block bytes) (sym h)
 
-abbrev pub grant_answer : DirectoryValue → Moment → List ℕ → Request → Answered
-grant_answer dir now block request = told_of (reply_bytes (grant_of dir now request) block) (Some Initial) None
+abbrev pub grant_answer : DirectoryValue → Moment → List ℕ → Request → Branch → Answered
+grant_answer dir now block request branch = told_of (reply_bytes (grant_of dir now request) block) (Some branch) None
 
-noted : (message : Option KdcReq) (read : KdcReq) → message ≡ Some read → is_as_req read ≡ true → Some Initial ≡ option_map branch_of message
-noted message read e kind = sym (ap (option_map branch_of) e ∙ ap Some (initial true refl read kind))
-
-pub answered_granted : (dir : DirectoryValue) (now : Moment) (block bytes : List ℕ) (message : KdcReq) (realm : ℕ) → IsOpened dir bytes message realm → verdict dir now bytes ≡ None
-    → grant_answer dir now block (request_to message realm) ≡ answered_to dir now block bytes
+pub answered_granted : (dir : DirectoryValue) (now : Moment) (block bytes : List ℕ) (message : KdcReq) (realm : ℕ) (branch : Branch) → IsOpened dir bytes message realm branch
+    → verdict dir now bytes ≡ None → grant_answer dir now block (request_to message realm) branch ≡ answered_to dir now block bytes
 unfolding answered_to grant_in
-answered_granted dir now block bytes message realm h e =
-    let branch = noted (message_in bytes) message h.read h.kind in
-    let granted : grant_of dir now (request_to message realm) ≡ grant_in dir now bytes = sym (ap (λ (r : Option Request). r >>= grant_of dir now) (request_is dir bytes message realm h)) in
-    let made : grant_answer dir now block (request_to message realm) ≡ answered_by dir now block bytes None =
-    λ i. record { reply = reply_bytes (granted i) block; note = record { branch = branch i; rule = None } } in
+answered_granted dir now block bytes message realm branch h e =
+    let asked : Some branch ≡ option_map branch_of (message_in bytes) = sym (ap (option_map branch_of) h.read ∙ ap Some h.asked) in
+    let granted : grant_of dir now (request_to message realm) ≡ grant_in dir now bytes = sym (ap (λ (r : Option Request). r >>= grant_of dir now) (request_is dir bytes message realm branch h)) in
+    let made : grant_answer dir now block (request_to message realm) branch ≡ answered_by dir now block bytes None =
+    λ i. record { reply = reply_bytes (granted i) block; note = record { branch = asked i; rule = None } } in
     made ∙ ap (answered_by dir now block bytes) (sym e)
 
 -- ---- what a verdict tells
@@ -193,17 +170,22 @@ opening_known dir now bytes h =
     let u5 = passes U5 (holds_of (realm_is_known dir) (message_in bytes)) (drop 5 rows) u4.1 in
     record { within = u1.0; tagged = u2.0; read = u3.0; version = u4.0; known = u5.0 }
 
-pub initial_known : (dir : DirectoryValue) (now : Moment) (bytes : List ℕ) (request : Request) → verdict dir now bytes ≡ None → request_in dir bytes ≡ Some request
-    → branch_of request.message ≡ Initial → AsGrants (as_ask dir request.realm now request.message)
+-- none of the rules of its branch denies it
+pub branch_known : (dir : DirectoryValue) (now : Moment) (bytes : List ℕ) (request : Request) (branch : Branch) → verdict dir now bytes ≡ None → request_in dir bytes ≡ Some request
+    → branch_of request.message ≡ branch → first_failing (rules_of_branch dir now request branch) ≡ None
 unfolding verdict
-initial_known dir now bytes request h e branch =
+branch_known dir now bytes request branch h e asked =
     let rows = opening_rules dir bytes in
     let later = rules_of_request dir now (request_in dir bytes) in
     let none = (or_none (first_failing rows) (first_failing later) (sym (failing_append rows later) ∙ h)).1 in
-    let ask = as_ask dir request.realm now request.message in
     let of_request : first_failing (rules_of_request dir now (Some request)) ≡ None = sym (ap (λ (r : Option Request). first_failing (rules_of_request dir now r)) e) ∙ none in
-    let of_ask : first_failing (as_rules ask) ≡ None = sym (ap (λ (b : Branch). first_failing (rules_of_branch dir now request b)) branch) ∙ of_request in
-    granted ask (ap (λ (f : Option Rule). is_grant (decided f (as_terms ask))) of_ask)
+    sym (ap (λ (b : Branch). first_failing (rules_of_branch dir now request b)) asked) ∙ of_request
+
+pub initial_known : (dir : DirectoryValue) (now : Moment) (bytes : List ℕ) (request : Request) → verdict dir now bytes ≡ None → request_in dir bytes ≡ Some request
+    → branch_of request.message ≡ Initial → AsGrants (as_ask dir request.realm now request.message)
+initial_known dir now bytes request h e asked =
+    let ask = as_ask dir request.realm now request.message in
+    granted ask (ap (λ (f : Option Rule). is_grant (decided f (as_terms ask))) (branch_known dir now bytes request Initial h e asked))
 
 -- ---- a request that is too long
 

@@ -1,10 +1,10 @@
 -- What a message is known to be that was read.
 use Rattle.std.proofs.Common.{◌≡◌, ℕ, ◌+◌, ◌*◌, ◌<◌, ◌≤◌, ◌^◌, Bool, true, false, List, [], ◌∷◌, ◌++◌, length, Option, Some, None, refl, sym, ap, subst, length-append, arith}
-use Rattle.std.specs.Prelude.{IfSome}
+use Rattle.std.specs.Prelude.{IfSome, if◌then◌else◌}
 use Rattle.std.specs.List.{AllByRecursion, flat_map}
 use Rattle.std.proofs.lemmas.Bool.Decides.{nat_tests}
 use Rattle.std.proofs.lemmas.List.Concat.{flat_map-cons}
-use Rattle.der_core.specs.Codec.{Codec}
+use Rattle.der_core.specs.Codec.{Codec, whole}
 use Rattle.der_core.specs.Elements.{element}
 use Rattle.der_core.specs.Forms.{int32, number_is, octets}
 use Rattle.der_core.specs.Laws.{IsBytes}
@@ -39,8 +39,8 @@ use Rattle.as_core.specs.AsRequests.{extra_tickets}
 use Rattle.as_core.specs.Stamps.{items_of}
 use Rattle.ticket_codec.specs.Made.{IsTicketName}
 use Rattle.tgs_core.specs.Received.{IsReceived}
-use Rattle.tgs_core.specs.Requests.{is_within_limit, message_in}
-use Rattle.tgs_core.proofs.ReadRequests.{IsRead, message_is_read}
+use Rattle.tgs_core.specs.Requests.{is_within_limit, message_in, message_told}
+use Rattle.tgs_core.proofs.ReadRequests.{IsRead, message_is_told}
 
 -- ---- what stands in fields
 
@@ -114,18 +114,23 @@ value_within item =
       content_within 48 (front ++ behind),
     )
 
-items_short : (items : List PaData) → length (flat_map pa_data.spelling items) < 2 ^ 32 → AllByRecursion (λ item. length item.padata_value < 2 ^ 32) items
-items_short [] h = tt
-items_short (item ∷ items) h =
+items_short : (n : ℕ) (items : List PaData) → length (flat_map pa_data.spelling items) ≤ n → AllByRecursion (λ item. length item.padata_value ≤ n) items
+items_short n [] h = tt
+items_short n (item ∷ items) h =
     let whole = ap length (flat_map-cons pa_data.spelling item items) in
     let both = length-append (pa_data.spelling item) (flat_map pa_data.spelling items) in
-    (omega (arith, h, whole, both, value_within item), items_short items (omega (arith, h, whole, both)))
+    (omega (arith, h, whole, both, value_within item), items_short n items (omega (arith, h, whole, both)))
 
-padata_short : (padata : Option (List PaData)) → length (optional_spelling 3 (sequence_of pa_data) padata) < 2 ^ 32 → AllByRecursion (λ item. length item.padata_value < 2 ^ 32) (items_of padata)
-padata_short None h = tt
-padata_short (Some items) h =
+padata_short : (n : ℕ) (padata : Option (List PaData)) → length (optional_spelling 3 (sequence_of pa_data) padata) ≤ n → AllByRecursion (λ item. length item.padata_value ≤ n) (items_of padata)
+padata_short n None h = tt
+padata_short n (Some items) h =
     let list : List ℕ = flat_map pa_data.spelling items in
-    items_short items (omega (arith, h, content_within 48 list, content_within (tag_of 3) (element 48 list)))
+    items_short n items (omega (arith, h, content_within 48 list, content_within (tag_of 3) (element 48 list)))
+
+-- fewer bytes than 32 bits count
+all_few : (items : List PaData) → AllByRecursion (λ item. length item.padata_value ≤ 393216) items → AllByRecursion (λ item. length item.padata_value < 2 ^ 32) items
+all_few [] h = tt
+all_few (item ∷ items) h = let few = h.0 in (omega (arith, few), all_few items h.1)
 
 -- ---- additional tickets
 
@@ -204,16 +209,28 @@ short_is_received message read short =
     let names = body_names message.req_body (kdc_req_body_lawful.fits message.body_bytes message.req_body read.bytes body) in
     let longer = kdc_req_body_lawful.no_longer message.body_bytes message.req_body read.bytes body in
     let extra = extra_in_body message.req_body in
+    let few = padata_short 393216 message.padata (omega (arith, padata, short)) in
     record {
       fits = read.fits;
       realm = names.realm;
       server = names.server;
-      padata = padata_short message.padata (omega (arith, padata, short));
+      padata = all_few (items_of message.padata) few;
+      short = few;
+      octets = read.octets;
       tickets = omega (arith, short, bytes, longer, extra);
     }
 
-pub read_is_received : (bytes : List ℕ) (message : KdcReq) → IsBytes bytes → is_within_limit bytes ≡ true → message_in bytes ≡ Some message
-    → length (kdc_req.spelling message) ≤ 3 * length bytes → IsReceived message
-read_is_received bytes message are_bytes within read short =
-    let few : length bytes ≤ 131072 = grind (arith, nat_tests) in
-    short_is_received message (message_is_read bytes message are_bytes read) (omega (arith, few, short))
+by_limit : (within : Bool) (bytes : List ℕ) (message : KdcReq) (found : Option KdcReq) → is_within_limit bytes ≡ within → (if within then found else None) ≡ Some message → length bytes ≤ 131072
+by_limit true bytes message found within e = grind (arith, nat_tests)
+by_limit false bytes message found within e = absurd cc
+
+pub within_is : (bytes : List ℕ) (message : KdcReq) → message_in bytes ≡ Some message → length bytes ≤ 131072
+unfolding message_in
+within_is bytes message e = by_limit (is_within_limit bytes) bytes message (message_told (whole kdc_req bytes)) refl e
+
+pub message_is_received : (bytes : List ℕ) (message : KdcReq) → IsBytes bytes → message_in bytes ≡ Some message → IsReceived message
+message_is_received bytes message are_bytes read =
+    let told = message_is_told bytes message are_bytes read in
+    let few = within_is bytes message read in
+    let longer = told.no_longer in
+    short_is_received message told.read (omega (arith, few, longer))

@@ -29,7 +29,7 @@ use Rattle.dir_records.specs.IsDirectory.{IsAccount, IsAccountInRange, IsRealm, 
 use Rattle.ticket_codec.specs.declared.holding.Holding.{Holding}
 use Rattle.ticket_parts.specs.Parts.{bare_part}
 use Rattle.ticket_parts.specs.Sound.{IsNameText, IsSound, IsSoundSubject, IsUserSid}
-use Rattle.tgs_core.specs.Grants.{ByAccount, Grant, Grounds, IsGrant, control_of, granted_record, session_key, subject_of_account}
+use Rattle.tgs_core.specs.Grants.{ByAccount, ByHeader, ForUser, Grant, Grounds, IsGrant, control_of, granted_record, session_key, subject_of_account}
 use Rattle.tgs_core.specs.Requests.{Request}
 
 -- ---- the session key
@@ -74,7 +74,7 @@ and_true a b h k = rw (h, k) refl
 pub realm_is : (realm : RealmRec) → IsRealm realm → IsRealmInRange realm → is_realm realm.name ≡ true
 realm_is realm h k = and_true (is_utf8 realm.name) (is_name realm.name) k.name h.name
 
-account_is : (account : AccountRec) → IsAccount account → IsAccountInRange account → is_realm account.name ≡ true
+pub account_is : (account : AccountRec) → IsAccount account → IsAccountInRange account → is_realm account.name ≡ true
 account_is account h k = and_true (is_utf8 account.name) (is_name account.name) k.name (both (is_name account.name) _ h.name).0
 
 pub lone_part : (name : List ℕ) → is_realm name ≡ true → are_parts (pos 1) (name ∷ []) ≡ true
@@ -121,9 +121,12 @@ subject_is realm account h k g l = record {
 
 -- ---- the record
 
+-- a grant's parts
+abbrev whole : RealmRec → Request → Principal → Terms → Holding → Grounds → Grant
+whole realm request server terms holding grounds = record { realm = realm; request = request; server = server; terms = terms; holding = holding; grounds = grounds }
+
 sound_by : (realm : RealmRec) (request : Request) (server : Principal) (terms : Terms) (holding : Holding) (grounds : Grounds) (block : List ℕ)
-    → IsGrant (record { realm = realm; request = request; server = server; terms = terms; holding = holding; grounds = grounds }) → length block ≡ 64 → IsBytes block
-    → IsSound (granted_record (record { realm = realm; request = request; server = server; terms = terms; holding = holding; grounds = grounds }) block)
+    → IsGrant (whole realm request server terms holding grounds) → length block ≡ 64 → IsBytes block → IsSound (granted_record (whole realm request server terms holding grounds) block)
 unfolding granted_record
 sound_by realm request server terms holding (ByAccount account) block h long bytes =
     let key = session_key_is terms.session block long bytes in
@@ -143,6 +146,48 @@ sound_by realm request server terms holding (ByAccount account) block h long byt
         items = tt;
       };
       subject = subject_is realm account h.realm h.range h.grounds.0 h.grounds.1;
+      delegation = tt;
+    }
+sound_by realm request server terms holding (ByHeader shown) block h long bytes =
+    let key = session_key_is terms.session block long bytes in
+    let of = h.grounds.part in
+    record {
+      part = record {
+        flags = h.flags;
+        key_length = key.size;
+        key_octets = key.octets;
+        key_padding = key.padding;
+        crealm = of.crealm;
+        cname_kind = of.cname_kind;
+        cname_parts = of.cname_parts;
+        transited = of.transited;
+        auth = of.auth;
+        start = h.start;
+        end = h.end;
+        items = tt;
+      };
+      subject = h.grounds.subject;
+      delegation = tt;
+    }
+sound_by realm request server terms holding (ForUser shown account asked) block h long bytes =
+    let key = session_key_is terms.session block long bytes in
+    let user = h.grounds.0 in
+    record {
+      part = record {
+        flags = h.flags;
+        key_length = key.size;
+        key_octets = key.octets;
+        key_padding = key.padding;
+        crealm = realm_is realm h.realm h.range;
+        cname_kind = kind_fits;
+        cname_parts = lone_part account.name (account_is account user.0 user.1);
+        transited = refl;
+        auth = h.grounds.1.0.part.auth;
+        start = h.start;
+        end = h.end;
+        items = tt;
+      };
+      subject = subject_is realm account h.realm h.range user.0 user.1;
       delegation = tt;
     }
 

@@ -1,13 +1,14 @@
 -- The reply to a grant can be written, and is short.
-use Rattle.std.proofs.Common.{◌≡◌, ℕ, ◌+◌, ◌<◌, ◌≤◌, ◌^◌, List, [], ◌∷◌, ◌++◌, length, pos, Some, refl, ap, ◌∙◌, length-append, arith}
-use Rattle.std.specs.Prelude.{FitsSigned}
+use Rattle.std.proofs.Common.{◌≡◌, ℕ, ℤ, ◌+◌, ◌<◌, ◌≤◌, ◌^◌, List, [], ◌∷◌, ◌++◌, length, pos, to_z, of_z, Option, None, Some, refl, ap, ◌∙◌, length-append, arith}
+use Rattle.std.specs.Prelude.{FitsSigned, IfSome}
 use Rattle.std.specs.Int.{w32}
-use Rattle.std.specs.List.{flat_map}
+use Rattle.std.specs.List.{AllByRecursion, flat_map}
 use Rattle.std.proofs.lemmas.List.Concat.{flat_map-cons}
+use Rattle.der_forms.specs.Choices.{tag_in}
 use Rattle.der_forms.specs.Lists.{sequence_of}
 use Rattle.krb_names.specs.declared.etype.Etype.{Etype}
 use Rattle.krb_names.specs.declared.etype.Etype.TheVariants.{Aes128, Aes256}
-use Rattle.krb_names.specs.declared.principal.Principal.{Principal}
+use Rattle.krb_names.specs.declared.key.Key.{Key}
 use Rattle.krb_names.specs.Etypes.{etype_number}
 use Rattle.krb_tickets.specs.declared.encrypted_data.EncryptedData.{EncryptedData}
 use Rattle.krb_tickets.specs.declared.ticket.Ticket.{Ticket}
@@ -15,20 +16,18 @@ use Rattle.krb_tickets.specs.Ticket.{ticket}
 use Rattle.ticket_laws.proofs.Sizes.{element_within}
 use Rattle.krb_messages.specs.declared.kdc_rep.KdcRep.{KdcRep}
 use Rattle.krb_messages.specs.declared.pa_data.PaData.{PaData}
-use Rattle.krb_messages.specs.EncKdcRep.{enc_kdc_rep}
+use Rattle.krb_messages.specs.EncKdcRep.{enc_kdc_rep, is_first_tag}
 use Rattle.krb_messages.specs.EtypeInfo2Entry.{etype_info2_entry}
-use Rattle.krb_messages.specs.KdcRep.{kdc_rep}
+use Rattle.krb_messages.specs.KdcRep.{is_eleven, kdc_rep, msg_type_of}
 use Rattle.krb_messages.specs.PaData.{pa_data}
-use Rattle.kdc_records.specs.declared.decision.Terms.{Terms}
+use Rattle.s4u_padata.specs.declared.x509_user.X509User.{X509User}
 use Rattle.kdc_records.specs.declared.ticket_rec.TicketRec.{TicketRec}
 use Rattle.dir_records.specs.declared.records.Account.{Account as AccountRec}
-use Rattle.dir_records.specs.declared.records.RealmRec.{RealmRec}
 use Rattle.dir_records.specs.IsDirectory.{IsAccount, IsAccountInRange}
-use Rattle.ticket_codec.specs.declared.holding.Holding.{Holding}
 use Rattle.ticket_parts.specs.Sound.{IsSound}
-use Rattle.tgs_core.specs.Grants.{ByAccount, Grant, Grounds, IsGrant, granted_record, reply_confounder}
-use Rattle.tgs_core.specs.Replies.{key_entry, key_info, reply_key, reply_of, reply_padata, reply_part, reply_type, sealed_with, ticket_made}
-use Rattle.tgs_core.specs.Requests.{Request}
+use Rattle.tgs_core.specs.Grants.{ByAccount, ByHeader, ForUser, Grant, Grounds, IsEchoable, IsGrant, IsGrounds, granted_record, reply_confounder}
+use Rattle.tgs_core.specs.Replies.{echo_padata, key_entry, key_info, part_tag, reply_key, reply_of, reply_padata, reply_part, reply_type, sealed_with, tgs_key, ticket_made}
+use Rattle.tgs_core.proofs.EchoForms.{echo_short}
 use Rattle.tgs_core.proofs.ReplyForms.{IsShortReply, IsWritableEntry, IsWritableReply, IsWritableReplyPart, entry_fits, entry_short, padata_fits, padata_short, part_fits, part_short, reply_fits, reply_short}
 
 -- ---- PA-ETYPE-INFO2
@@ -59,20 +58,48 @@ key_info_fits account = padata_fits (key_info account) nineteen
 pub key_info_short : (account : AccountRec) → IsAccount account → IsAccountInRange account → length (pa_data.spelling (key_info account)) ≤ 2142
 key_info_short account h k = omega (arith, padata_short (key_info account) nineteen, entries_short account h k)
 
-padata_is_short : (account : AccountRec) → IsAccount account → IsAccountInRange account → length ((sequence_of pa_data).spelling (key_info account ∷ [])) ≤ 2148
-padata_is_short account h k =
-    let item : List ℕ = pa_data.spelling (key_info account) in
-    let all : List ℕ = flat_map pa_data.spelling (key_info account ∷ []) in
-    let count : length all ≡ length (item ++ []) = ap length (flat_map-cons pa_data.spelling (key_info account) []) in
-    element_within 48 2142 all (omega (arith, count, length-append item [], key_info_short account h k))
+-- padata of one item
+lone_short : (item : PaData) (n : ℕ) → length (pa_data.spelling item) ≤ n → length ((sequence_of pa_data).spelling (item ∷ [])) ≤ 6 + n
+lone_short item n le =
+    let one : List ℕ = pa_data.spelling item in
+    let all : List ℕ = flat_map pa_data.spelling (item ∷ []) in
+    let count : length all ≡ length (one ++ []) = ap length (flat_map-cons pa_data.spelling item []) in
+    element_within 48 n all (omega (arith, count, length-append one [], le))
+
+-- ---- PA-S4U-X509-USER
+
+hundred_thirty : FitsSigned w32 (pos 130)
+hundred_thirty = record { sfits = omega arith }
+
+echo_padata_short : (key : Key) (asked : X509User) → IsEchoable asked → length (pa_data.spelling (echo_padata key asked)) ≤ 106 + 2 ^ 24
+echo_padata_short key asked h = let few = h.few in omega (arith, padata_short (echo_padata key asked) hundred_thirty, echo_short key asked, few)
+
+-- ---- the padata of a reply
+
+padata_fit : (grounds : Grounds) → IfSome (reply_padata grounds) (AllByRecursion (λ item. FitsSigned w32 item.padata_type))
+padata_fit (ByAccount account) = (nineteen, tt)
+padata_fit (ByHeader shown) = tt
+padata_fit (ForUser shown account None) = tt
+padata_fit (ForUser shown account (Some asked)) = (hundred_thirty, tt)
+
+padata_are_short : (grounds : Grounds) → IsGrounds grounds → IfSome (reply_padata grounds) (λ items. length ((sequence_of pa_data).spelling items) ≤ 112 + 2 ^ 24)
+padata_are_short (ByAccount account) h = omega (arith, lone_short (key_info account) 2142 (key_info_short account h.0 h.1))
+padata_are_short (ByHeader shown) h = tt
+padata_are_short (ForUser shown account None) h = tt
+padata_are_short (ForUser shown account (Some asked)) h =
+    let key : Key = (tgs_key shown.session shown.subkey).key in
+    omega (arith, lone_short (echo_padata key asked) (106 + 2 ^ 24) (echo_padata_short key asked h.1.1))
 
 -- ---- what is sealed in the reply
 
-part_by : (realm : RealmRec) (request : Request) (server : Principal) (terms : Terms) (holding : Holding) (grounds : Grounds) (t : TicketRec)
-    → IsGrant (record { realm = realm; request = request; server = server; terms = terms; holding = holding; grounds = grounds }) → IsSound t
-    → IsWritableReplyPart (reply_part (record { realm = realm; request = request; server = server; terms = terms; holding = holding; grounds = grounds }) t)
-part_by realm request server terms holding (ByAccount account) t g s = record {
-  tag = refl;
+tag_is : (grounds : Grounds) → tag_in 0x79 0x7a (is_first_tag (part_tag grounds)) ≡ part_tag grounds
+tag_is (ByAccount account) = refl
+tag_is (ByHeader shown) = refl
+tag_is (ForUser shown account asked) = refl
+
+part_is : (grant : Grant) (t : TicketRec) → IsGrant grant → IsSound t → IsWritableReplyPart (reply_part grant t)
+part_is grant t g s = record {
+  tag = tag_is grant.grounds;
   key_length = s.part.key_length;
   key_padding = s.part.key_padding;
   last_req = (record { kind = record { sfits = omega arith }; value = g.start }, tt);
@@ -88,9 +115,6 @@ part_by realm request server terms holding (ByAccount account) t g s = record {
   sname_kind = g.server.kind;
   sname_parts = g.server.parts;
 }
-
-part_is : (grant : Grant) (t : TicketRec) → IsGrant grant → IsSound t → IsWritableReplyPart (reply_part grant t)
-part_is grant t g s = part_by grant.realm grant.request grant.server grant.terms grant.holding grant.grounds t g s
 
 pub reply_part_fits : (grant : Grant) (t : TicketRec) → IsGrant grant → IsSound t → enc_kdc_rep.Fits (reply_part grant t)
 reply_part_fits grant t g s = part_fits (reply_part grant t) (part_is grant t g s)
@@ -108,52 +132,69 @@ pub record IsMadeReply (grant : Grant) (block : List ℕ) : Type 0 where
   pub ticket_short : length (ticket.spelling (ticket_made grant block)) < 2 ^ 25
   pub cipher : length (sealed_with (reply_key grant.grounds) (reply_confounder block) (reply_part grant (granted_record grant block))).cipher ≤ 4124
 
-record IsWrittenReply (grant : Grant) (block : List ℕ) : Type 0 where
-  fits : IsWritableReply (reply_of grant block)
-  short : IsShortReply (reply_of grant block) 2148 (2 ^ 25)
+-- as it is passed on in 32 bits
+pub type_passed : (grounds : Grounds) → to_z w32 (of_z w32 (reply_type grounds)) ≡ reply_type grounds
+type_passed (ByAccount account) = refl
+type_passed (ByHeader shown) = refl
+type_passed (ForUser shown account asked) = refl
+
+kind_is : (grounds : Grounds) → msg_type_of (is_eleven (reply_type grounds)) ≡ reply_type grounds
+kind_is (ByAccount account) = refl
+kind_is (ByHeader shown) = refl
+kind_is (ForUser shown account asked) = refl
+
+tgs_version : (session : Key) (subkey : Option Key) → IfSome (tgs_key session subkey).version (λ n. n < 2 ^ 32)
+tgs_version session None = tt
+tgs_version session (Some subkey) = tt
+
+version_fits : (grounds : Grounds) → IsGrounds grounds → IfSome (reply_key grounds).version (λ n. n < 2 ^ 32)
+version_fits (ByAccount account) h = h.1.key.version
+version_fits (ByHeader shown) h = tgs_version shown.session shown.subkey
+version_fits (ForUser shown account asked) h = tgs_version shown.session shown.subkey
+
+reply_is_writable : (grant : Grant) (block : List ℕ) → IsMadeReply grant block → IsWritableReply (reply_of grant block)
+unfolding reply_of
+reply_is_writable grant block m = record {
+  pvno = refl;
+  msg_type = kind_is grant.grounds;
+  padata = padata_fit grant.grounds;
+  crealm = m.record_is.part.crealm;
+  same = refl;
+  cname_kind = m.record_is.part.cname_kind;
+  cname_parts = m.record_is.part.cname_parts;
+  ticket = m.ticket_fits;
+  enc_part = record { etype = etype_fits (reply_key grant.grounds).key.etype; kvno = version_fits grant.grounds m.given.grounds };
+}
+
+record IsBounded (grant : Grant) (block : List ℕ) : Type 0 where
+  short : IsShortReply (reply_of grant block) (112 + 2 ^ 24) (2 ^ 25)
   cipher : length (reply_of grant block).enc_part.cipher ≤ 4124
 
-reply_by : (realm : RealmRec) (request : Request) (server : Principal) (terms : Terms) (holding : Holding) (grounds : Grounds) (block : List ℕ)
-    → IsMadeReply (record { realm = realm; request = request; server = server; terms = terms; holding = holding; grounds = grounds }) block
-    → IsWrittenReply (record { realm = realm; request = request; server = server; terms = terms; holding = holding; grounds = grounds }) block
+reply_is_bounded : (grant : Grant) (block : List ℕ) → IsMadeReply grant block → IsBounded grant block
 unfolding reply_of
-reply_by realm request server terms holding (ByAccount account) block m = record {
-  fits = record {
-    pvno = refl;
-    msg_type = refl;
-    padata = (nineteen, tt);
-    crealm = m.record_is.part.crealm;
-    same = refl;
-    cname_kind = m.record_is.part.cname_kind;
-    cname_parts = m.record_is.part.cname_parts;
-    ticket = m.ticket_fits;
-    enc_part = record { etype = etype_fits account.key.key.etype; kvno = m.given.grounds.1.key.version };
-  };
-  short = record { padata = padata_is_short account m.given.grounds.0 m.given.grounds.1; ticket = let short = m.ticket_short in omega (arith, short) };
+reply_is_bounded grant block m = record {
+  short = record { padata = padata_are_short grant.grounds m.given.grounds; ticket = let short = m.ticket_short in omega (arith, short) };
   cipher = m.cipher;
 }
 
 pub made_reply_fits : (grant : Grant) (block : List ℕ) → IsMadeReply grant block → kdc_rep.Fits (reply_of grant block)
-made_reply_fits grant block m = reply_fits (reply_of grant block) (reply_by grant.realm grant.request grant.server grant.terms grant.holding grant.grounds block m).fits
+made_reply_fits grant block m = reply_fits (reply_of grant block) (reply_is_writable grant block m)
 
 pub made_reply_short : (grant : Grant) (block : List ℕ) → IsMadeReply grant block → length (kdc_rep.spelling (reply_of grant block)) < 2 ^ 31
 made_reply_short grant block m =
-    let w = reply_by grant.realm grant.request grant.server grant.terms grant.holding grant.grounds block m in
-    let all = reply_short (reply_of grant block) 2148 (2 ^ 25) w.fits w.short in
+    let w = reply_is_bounded grant block m in
+    let all = reply_short (reply_of grant block) (112 + 2 ^ 24) (2 ^ 25) (reply_is_writable grant block m) w.short in
     let cipher = w.cipher in
     omega (arith, all, cipher)
 
 -- ---- what a reply is made of
 
-type_is : (grounds : Grounds) → pos 11 ≡ reply_type grounds
-type_is (ByAccount account) = refl
-
-pub reply_is : (grant : Grant) (block : List ℕ) (t : TicketRec) (padata : List PaData) (crealm : List ℕ) (made : Ticket) (sealed : EncryptedData) → t ≡ granted_record grant block
-    → Some padata ≡ reply_padata grant.grounds → crealm ≡ t.client.realm → made ≡ ticket_made grant block
+pub reply_is : (grant : Grant) (block : List ℕ) (t : TicketRec) (kind : ℤ) (padata : Option (List PaData)) (crealm : List ℕ) (made : Ticket) (sealed : EncryptedData)
+    → t ≡ granted_record grant block → kind ≡ reply_type grant.grounds → padata ≡ reply_padata grant.grounds → crealm ≡ t.client.realm → made ≡ ticket_made grant block
     → sealed ≡ sealed_with (reply_key grant.grounds) (reply_confounder block) (reply_part grant t)
-    → (let reply : KdcRep = record { pvno = pos 5; msg_type = pos 11; padata = Some padata; crealm = crealm; cname = t.client; ticket = made; enc_part = sealed } in reply) ≡ reply_of grant block
+    → (let reply : KdcRep = record { pvno = pos 5; msg_type = kind; padata = padata; crealm = crealm; cname = t.client; ticket = made; enc_part = sealed } in reply) ≡ reply_of grant block
 unfolding reply_of
-reply_is grant block t padata crealm made sealed is items realm ticket part =
+reply_is grant block t kind padata crealm made sealed is of_kind items realm ticket part =
     let whole = part ∙ ap (λ (t : TicketRec). sealed_with (reply_key grant.grounds) (reply_confounder block) (reply_part grant t)) is in
     let of = realm ∙ ap (λ (t : TicketRec). t.client.realm) is in
-    λ i. record { pvno = pos 5; msg_type = type_is grant.grounds i; padata = items i; crealm = of i; cname = (is i).client; ticket = ticket i; enc_part = whole i }
+    λ i. record { pvno = pos 5; msg_type = of_kind i; padata = items i; crealm = of i; cname = (is i).client; ticket = ticket i; enc_part = whole i }

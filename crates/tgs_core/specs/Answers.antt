@@ -6,12 +6,13 @@ use Rattle.kdc_records.specs.declared.rule.Rule.{Rule}
 use Rattle.kdc_records.specs.declared.rule.Rule.TheVariants.{U1, U2, U3, U4}
 use Rattle.kdc_records.specs.declared.wish.Branch.{Branch}
 use Rattle.dir_records.specs.DirectoryValue.{DirectoryValue}
+use Rattle.tgs_requests.specs.Askings.{branch_of}
 use Rattle.tgs_core.specs.declared.answered.Answered.{Answered}
 use Rattle.tgs_core.specs.declared.answered.Note.{Note}
 use Rattle.tgs_core.specs.Errors.{error_bytes}
 use Rattle.tgs_core.specs.Grants.{grant_in}
 use Rattle.tgs_core.specs.Replies.{reply_bytes}
-use Rattle.tgs_core.specs.Requests.{branch_of, message_in}
+use Rattle.tgs_core.specs.Requests.{message_in}
 use Rattle.tgs_core.specs.Verdicts.{verdict}
 
 -- the bytes that are sent: a ticket, or the first failing rule's error

@@ -1,5 +1,5 @@
 -- What a granted request is given: the record of its ticket.
-use Rattle.std.specs.Prelude.{ℕ, pos, ◌+◌, ◌<◌, ◌≤◌, ◌^◌, Bool, List, [], ◌∷◌, take, drop, Option, None, Some, option_map, slice_get, if◌then◌else◌}
+use Rattle.std.specs.Prelude.{ℕ, pos, ◌+◌, ◌<◌, ◌≤◌, ◌^◌, Bool, List, [], ◌∷◌, length, take, drop, Option, None, Some, is_some, option_map, slice_get, unwrap_or, IfSome, if◌then◌else◌}
 use Rattle.kdc_prelude.specs.Steps.{◌>>=◌}
 use Rattle.der_forms.specs.Values.{nonce}
 use Rattle.krb_names.specs.declared.etype.Etype.{Etype}
@@ -9,22 +9,35 @@ use Rattle.krb_names.specs.declared.principal.Principal.{Principal}
 use Rattle.krb_names.specs.Etypes.{key_length}
 use Rattle.krb_names.specs.Keys.{key_of}
 use Rattle.krb_names.specs.SidValue.{followed_by}
+use Rattle.krb_messages.specs.declared.kdc_req.KdcReq.{KdcReq}
+use Rattle.s4u_padata.specs.declared.x509_user.X509User.{X509User}
+use Rattle.s4u_padata.specs.X509User.{x509_user}
+use Rattle.kdc_records.specs.declared.decision.Aim.{Aim}
+use Rattle.kdc_records.specs.declared.decision.Aim.TheVariants.{Krbtgt, Hop, Account}
 use Rattle.kdc_records.specs.declared.decision.Terms.{Terms}
 use Rattle.kdc_records.specs.declared.subject.Delegation.{Delegation}
 use Rattle.kdc_records.specs.declared.subject.Subject.{Subject}
 use Rattle.kdc_records.specs.declared.ticket_rec.TicketRec.{TicketRec}
 use Rattle.kdc_records.specs.declared.wish.Branch.{Branch}
 use Rattle.kdc_records.specs.declared.wish.Branch.TheVariants.{Initial, Ordinary, SelfTicket, Proxy}
+use Rattle.kdc_records.specs.declared.wish.Wish.{Wish}
 use Rattle.dir_records.specs.declared.records.Account.{Account as AccountRec}
 use Rattle.dir_records.specs.declared.records.RealmRec.{RealmRec}
 use Rattle.dir_records.specs.DirectoryValue.{DirectoryValue}
 use Rattle.dir_records.specs.IsDirectory.{IsAccount, IsAccountInRange, IsRealm, IsRealmInRange}
 use Rattle.as_core.specs.AsRequests.{as_ask}
 use Rattle.as_core.specs.AsRules.{as_terms, client_account}
+use Rattle.s4u_rules.specs.SelfRules.{enterprise_user, self_terms, user_record}
+use Rattle.s4u_rules.specs.TgsRules.{aim_of, ordinary_terms}
 use Rattle.ticket_codec.specs.declared.holding.Holding.{Holding}
 use Rattle.ticket_codec.specs.Holdings.{aim_holding}
 use Rattle.ticket_codec.specs.Made.{IsTicketName}
-use Rattle.tgs_core.specs.Requests.{Request, branch_of, request_in}
+use Rattle.ticket_parts.specs.Sound.{IsSound}
+use Rattle.tgs_requests.specs.declared.asking.SelfAsked.{SelfAsked}
+use Rattle.tgs_requests.specs.declared.header.Header.{Header}
+use Rattle.tgs_requests.specs.Askings.{branch_of, self_asked}
+use Rattle.tgs_requests.specs.Headers.{header_in, record_in}
+use Rattle.tgs_core.specs.Requests.{Request, request_in}
 
 -- ---- the user of an account
 
@@ -49,10 +62,18 @@ principal_of_account realm account = record { kind = pos 1; parts = account.name
 
 -- ---- on what a grant stands
 
+-- the header of a TGS-REQ: its record, and the keys that it brings, of the ticket and of the authenticator
+pub record Presented : Type 0 where
+  pub rec : TicketRec
+  pub session : Key
+  pub subkey : Option Key
+
 pub data Grounds : Type 0 where
   ByAccount : (account : AccountRec) → Grounds  -- the account that asks, of the realm that is asked
+  ByHeader : (shown : Presented) → Grounds  -- the header
+  ForUser : (shown : Presented) → (account : AccountRec) → (asked : Option X509User) → Grounds  -- S4U2self: the header, the user's account, and PA-S4U-X509-USER
 
--- a granted request: the realm that is asked, the name that is asked for, and for whom the ticket is sealed
+-- a granted request: the realm that is asked, the ticket's name, and for whom the ticket is sealed
 pub record Grant : Type 0 where
   pub realm : RealmRec
   pub request : Request
@@ -61,26 +82,68 @@ pub record Grant : Type 0 where
   pub holding : Holding
   pub grounds : Grounds
 
+-- a header that shows this record
+abbrev pub presented_with : Header → TicketRec → Presented
+presented_with header rec = record { rec = rec; session = header.opened.part.key; subkey = header.auth.subkey }
+
+-- the header of a request, where it shows a record
+abbrev pub presented_in : DirectoryValue → Request → Option Presented
+presented_in dir request = header_in dir request.realm request.message >>= λ header. option_map (presented_with header) (record_in header)
+
+-- the account of the user that is asked for
+abbrev pub user_account : DirectoryValue → ℕ → Wish → Option AccountRec
+user_account dir at wish = wish.user >>= user_record dir at
+
+-- PA-S4U-X509-USER of padata of S4U2self, where they are there
+abbrev pub x509_in : Option SelfAsked → Option X509User
+x509_in None = None
+x509_in (Some asked) = asked.x509_user
+
+-- that of a request
+abbrev pub x509_asked : KdcReq → Option X509User
+x509_asked message = x509_in (self_asked message)
+
+-- by how the request asks; S4U2proxy is not granted yet
 abbrev pub grounds_of : DirectoryValue → Request → Branch → Option Grounds
 grounds_of dir request Initial = option_map ByAccount (client_account dir request.realm request.message.req_body.cname)
-grounds_of dir request Ordinary = None
-grounds_of dir request SelfTicket = None
+grounds_of dir request Ordinary = option_map ByHeader (presented_in dir request)
+grounds_of dir request SelfTicket =
+    presented_in dir request >>= λ shown. user_account dir request.realm request.wish >>= λ account. Some (ForUser shown account (x509_asked request.message))
 grounds_of dir request Proxy = None
 
-abbrev pub terms_of : DirectoryValue → Moment → Request → Branch → Option Terms
-terms_of dir now request Initial = Some (as_terms (as_ask dir request.realm now request.message))
-terms_of dir now request Ordinary = None
-terms_of dir now request SelfTicket = None
-terms_of dir now request Proxy = None
+abbrev pub terms_of : DirectoryValue → Moment → Request → Grounds → Option Terms
+terms_of dir now request (ByAccount account) = Some (as_terms (as_ask dir request.realm now request.message))
+terms_of dir now request (ByHeader shown) =
+    option_map (ordinary_terms dir request.realm now request.wish shown.rec) (aim_of dir request.realm request.wish)
+terms_of dir now request (ForUser shown account asked) =
+    option_map (self_terms dir request.realm now request.wish shown.rec) (aim_of dir request.realm request.wish)
+
+-- ---- the ticket's name
+
+-- an account that is asked for by an enterprise name of one part `a@C` (RFC 6806, section 5) has its own, of kind 1 and one part; else it
+-- has the one that is asked for
+abbrev pub account_name : RealmRec → Principal → AccountRec → Principal
+account_name realm asked account = if is_some (enterprise_user asked) then principal_of_account realm account else asked
+
+-- in the realm that is asked
+abbrev pub ticket_name : RealmRec → Principal → Aim → Principal
+ticket_name realm asked Krbtgt = asked
+ticket_name realm asked (Hop trust) = asked
+ticket_name realm asked (Account at) = unwrap_or (option_map (account_name realm asked) (slice_get realm.accounts at)) asked
+
+-- ---- the grant
+
+-- with these terms on these grounds
+abbrev pub grant_with : DirectoryValue → Request → Grounds → Terms → Option Grant
+grant_with dir request grounds terms =
+    slice_get dir.realms request.realm >>= λ realm.
+    request.wish.server >>= λ server.
+    aim_holding dir request.realm terms.aim >>= λ holding.
+    Some (record { realm = realm; request = request; server = ticket_name realm server terms.aim; terms = terms; holding = holding; grounds = grounds })
 
 abbrev pub grant_of : DirectoryValue → Moment → Request → Option Grant
 grant_of dir now request =
-    slice_get dir.realms request.realm >>= λ realm.
-    request.wish.server >>= λ server.
-    terms_of dir now request (branch_of request.message) >>= λ terms.
-    aim_holding dir request.realm terms.aim >>= λ holding.
-    grounds_of dir request (branch_of request.message) >>= λ grounds.
-    Some (record { realm = realm; request = request; server = server; terms = terms; holding = holding; grounds = grounds })
+    grounds_of dir request (branch_of request.message) >>= λ grounds. terms_of dir now request grounds >>= λ terms. grant_with dir request grounds terms
 
 -- what is granted to the request that bytes are, where no rule denies it
 unfoldable pub grant_in : DirectoryValue → Moment → List ℕ → Option Grant
@@ -88,21 +151,32 @@ grant_in dir now bytes = request_in dir bytes >>= grant_of dir now
 
 -- ---- the columns of the ticket's record, by the grounds
 
+-- the account; the header's; the user
 abbrev pub client_by : RealmRec → Grounds → Principal
 client_by realm (ByAccount account) = principal_of_account realm account
+client_by realm (ByHeader shown) = shown.rec.client
+client_by realm (ForUser shown account asked) = principal_of_account realm account
 
 abbrev pub subject_by : RealmRec → Grounds → Subject
 subject_by realm (ByAccount account) = subject_of_account realm account
+subject_by realm (ByHeader shown) = shown.rec.subject
+subject_by realm (ForUser shown account asked) = subject_of_account realm account
 
--- an initial ticket is authenticated when it starts
+-- an initial ticket is authenticated when it starts, others when the header was
 abbrev pub auth_by : Terms → Grounds → ℕ
 auth_by terms (ByAccount account) = terms.start
+auth_by terms (ByHeader shown) = shown.rec.auth
+auth_by terms (ForUser shown account asked) = shown.rec.auth
 
+-- the header's; of a user of this realm none
 abbrev pub transited_by : Grounds → List (List ℕ)
 transited_by (ByAccount account) = []
+transited_by (ByHeader shown) = shown.rec.transited
+transited_by (ForUser shown account asked) = []
 
+-- of S4U2proxy alone, which is not granted yet
 abbrev pub delegation_by : Grounds → Option Delegation
-delegation_by (ByAccount account) = None
+delegation_by grounds = None
 
 -- ---- the random block of a request, of 64 bytes
 
@@ -136,9 +210,16 @@ granted_record grant block = record {
 
 -- ---- what a grant is made of
 
--- an account of a directory
+-- padata whose user-id, as received, can be written again
+pub record IsEchoable (asked : X509User) : Type 0 where
+  pub fits : x509_user.Fits asked
+  pub few : length asked.id_bytes < 2 ^ 24
+
+-- an account of a directory, the record of a ticket that was read, and padata that were read
 abbrev pub IsGrounds : Grounds → Type 0
 IsGrounds (ByAccount account) = IsAccount account × IsAccountInRange account
+IsGrounds (ByHeader shown) = IsSound shown.rec
+IsGrounds (ForUser shown account asked) = (IsAccount account × IsAccountInRange account) × (IsSound shown.rec × IfSome asked IsEchoable)
 
 -- a realm and grounds of a directory, a name and a nonce that were read, and terms that a ticket can have (times go to
 -- 9999-12-31T23:59:59)

@@ -2,6 +2,7 @@ pub mod Answers
 pub mod Errors
 pub mod GrantViews
 pub mod Grants
+pub mod Judged
 pub mod Laws
 pub mod Received
 pub mod Replies

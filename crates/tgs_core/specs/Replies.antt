@@ -1,7 +1,8 @@
 -- The reply to a granted request (RFC 4120, sections 3.1.3 and 5.4.2).
-use Rattle.std.specs.Prelude.{ℕ, ℤ, pos, List, [], ◌∷◌, Option, None, Some}
+use Rattle.std.specs.Prelude.{ℕ, ℤ, pos, List, [], ◌∷◌, Option, None, Some, if◌then◌else◌}
 use Rattle.krb_names.specs.declared.key.Key.{Key}
 use Rattle.krb_names.specs.Etypes.{etype_number}
+use Rattle.krb_crypto.specs.Checksums.{mac}
 use Rattle.krb_crypto.specs.Encryption.{seal}
 use Rattle.der_forms.specs.Lists.{sequence_of}
 use Rattle.krb_tickets.specs.declared.encrypted_data.EncryptedData.{EncryptedData}
@@ -13,11 +14,16 @@ use Rattle.krb_messages.specs.declared.pa_data.PaData.{PaData}
 use Rattle.krb_messages.specs.EncKdcRep.{enc_kdc_rep}
 use Rattle.krb_messages.specs.EtypeInfo2Entry.{etype_info2_entry}
 use Rattle.krb_messages.specs.KdcRep.{kdc_rep}
+use Rattle.pac_sign.specs.Sums.{sum_type}
+use Rattle.s4u_padata.specs.declared.x509_user.X509User.{X509User}
+use Rattle.s4u_padata.specs.X509User.{x509_user}
 use Rattle.kdc_records.specs.declared.ticket_rec.TicketRec.{TicketRec}
+use Rattle.kdc_records.specs.Bits.{has_bit}
 use Rattle.dir_records.specs.declared.records.Account.{Account as AccountRec}
 use Rattle.dir_records.specs.declared.records.KeyRec.{KeyRec}
 use Rattle.ticket_codec.specs.Made.{ticket_of}
-use Rattle.tgs_core.specs.Grants.{ByAccount, Grant, Grounds, granted_record, reply_confounder, ticket_confounder}
+use Rattle.tgs_core.specs.declared.reply_key.ReplyKey.{ReplyKey}
+use Rattle.tgs_core.specs.Grants.{ByAccount, ByHeader, ForUser, Grant, Grounds, granted_record, reply_confounder, ticket_confounder}
 
 -- PA-ETYPE-INFO2 of an account's key: its type and salt (RFC 4120, section 5.2.7.5)
 abbrev pub key_entry : AccountRec → EtypeInfo2Entry
@@ -26,26 +32,52 @@ key_entry account = record { etype = pos (etype_number account.key.key.etype); s
 abbrev pub key_info : AccountRec → PaData
 key_info account = record { padata_type = pos 19; padata_value = (sequence_of etype_info2_entry).spelling (key_entry account ∷ []) }
 
--- how a reply part is sealed: the key, its usage (RFC 4120, section 7.5.1), and the version that is told
-pub record ReplyKey : Type 0 where
-  pub key : Key
-  pub usage : ℕ
-  pub version : Option ℕ
+-- ---- how the part of a reply is sealed: the key, its usage (RFC 4120, section 7.5.1), and the version that is told
 
--- with the key of the account that asks
+-- of a TGS-REQ: with the subkey of its authenticator, else with the header's session key (RFC 4120, section 3.3.3)
+abbrev pub tgs_key : Key → Option Key → ReplyKey
+tgs_key session None = record { key = session; usage = 8; version = None }
+tgs_key session (Some subkey) = record { key = subkey; usage = 9; version = None }
+
+-- with the key of the account that asks, or a key that the header brings
 abbrev pub reply_key : Grounds → ReplyKey
 reply_key (ByAccount account) = record { key = account.key.key; usage = 3; version = Some account.key.version }
+reply_key (ByHeader shown) = tgs_key shown.session shown.subkey
+reply_key (ForUser shown account asked) = tgs_key shown.session shown.subkey
 
--- the tag of what is sealed: EncASRepPart
+-- the tag of what is sealed: EncASRepPart or EncTGSRepPart
 abbrev pub part_tag : Grounds → ℕ
 part_tag (ByAccount account) = 0x79
+part_tag (ByHeader shown) = 0x7a
+part_tag (ForUser shown account asked) = 0x7a
 
--- msg-type of an AS-REP
+-- msg-type of an AS-REP or a TGS-REP
 abbrev pub reply_type : Grounds → ℤ
 reply_type (ByAccount account) = pos 11
+reply_type (ByHeader shown) = pos 13
+reply_type (ForUser shown account asked) = pos 13
 
+-- the usage of the checksum of padata that are echoed: 27 where the option 0x20000000 is set (MS-SFU, section 2.2.2)
+abbrev pub echo_usage : X509User → ℕ
+echo_usage asked = if has_bit 2 asked.options then 27 else 26
+
+-- PA-S4U-X509-USER with the same user-id, as received, and a new checksum of a key's type
+abbrev pub echo : Key → X509User → X509User
+echo key asked = record asked { sum_type = pos (sum_type key.etype); sum = mac key (echo_usage asked) asked.id_bytes }
+
+abbrev pub echo_padata : Key → X509User → PaData
+echo_padata key asked = record { padata_type = pos 130; padata_value = x509_user.spelling (echo key asked) }
+
+-- where PA-S4U-X509-USER is asked by, it is echoed (MS-SFU, section 3.2.5.1.1)
+abbrev pub echoes : Key → Option X509User → Option (List PaData)
+echoes key None = None
+echoes key (Some asked) = Some (echo_padata key asked ∷ [])
+
+-- the type and the salt of the key of an account that asks; the echo of S4U2self
 abbrev pub reply_padata : Grounds → Option (List PaData)
 reply_padata (ByAccount account) = Some (key_info account ∷ [])
+reply_padata (ByHeader shown) = None
+reply_padata (ForUser shown account asked) = echoes (tgs_key shown.session shown.subkey).key asked
 
 -- the ticket
 abbrev pub ticket_made : Grant → List ℕ → Ticket

@@ -1,24 +1,18 @@
 -- A request as it is read (RFC 4120, sections 5.4.1 and 3.1.3).
-use Rattle.std.specs.Prelude.{ℕ, ℤ, pos, Bool, true, false, ◌==◌, ◌&&◌, ◌||◌, nat_le, List, [], ◌∷◌, length, Option, None, Some, is_some, option_map, Result, Ok, Err, if◌then◌else◌}
-use Rattle.std.specs.List.{list_any}
+use Rattle.std.specs.Prelude.{ℕ, Bool, false, ◌==◌, ◌||◌, nat_le, List, [], ◌∷◌, length, Option, None, Some, is_some, option_map, Result, Ok, Err, if◌then◌else◌}
 use Rattle.kdc_prelude.specs.Options.{holds_of}
 use Rattle.kdc_prelude.specs.Steps.{◌>>=◌}
 use Rattle.der_core.specs.declared.refusal.DerRefusal.{DerRefusal}
 use Rattle.der_core.specs.Codec.{whole}
 use Rattle.krb_tickets.specs.Pac.{is_number}
 use Rattle.krb_messages.specs.declared.kdc_req.KdcReq.{KdcReq}
-use Rattle.krb_messages.specs.declared.pa_data.PaData.{PaData}
-use Rattle.krb_messages.specs.KdcReq.{is_as_req, kdc_req}
+use Rattle.krb_messages.specs.KdcReq.{kdc_req}
 use Rattle.kdc_records.specs.declared.rule.Rule.{Rule}
 use Rattle.kdc_records.specs.declared.rule.Rule.TheVariants.{U1, U2, U3, U4, U5}
-use Rattle.kdc_records.specs.declared.wish.Branch.{Branch}
-use Rattle.kdc_records.specs.declared.wish.Branch.TheVariants.{Initial, Ordinary, SelfTicket, Proxy}
 use Rattle.kdc_records.specs.declared.wish.Wish.{Wish}
-use Rattle.kdc_records.specs.Bits.{has_bit}
 use Rattle.dir_records.specs.DirectoryValue.{DirectoryValue}
 use Rattle.dir_core.specs.Lookups.{realm_named}
-use Rattle.as_core.specs.AsRequests.{as_wish}
-use Rattle.as_core.specs.Stamps.{items_of}
+use Rattle.tgs_requests.specs.Askings.{wish_of}
 
 -- ---- the rules of a request by itself
 
@@ -26,10 +20,10 @@ use Rattle.as_core.specs.Stamps.{items_of}
 abbrev pub is_within_limit : List ℕ → Bool
 is_within_limit bytes = nat_le (length bytes) 131072
 
--- U2: its first byte is the tag of an AS-REQ (RFC 4120, section 5.4.1)
+-- U2: its first byte is the tag of an AS-REQ or a TGS-REQ (RFC 4120, section 5.4.1)
 abbrev pub is_tagged : List ℕ → Bool
 is_tagged [] = false
-is_tagged (first ∷ bytes) = first == 0x6a
+is_tagged (first ∷ bytes) = first == 0x6a || first == 0x6c
 
 abbrev pub message_told : Result KdcReq DerRefusal → Option KdcReq
 message_told (Ok message) = Some message
@@ -59,20 +53,6 @@ opening_rules dir bytes =
 
 -- ---- what is asked
 
--- padata of S4U2self: PA-FOR-USER or PA-S4U-X509-USER (MS-SFU, section 2.2)
-abbrev pub is_for_user : PaData → Bool
-is_for_user item = is_number 129 item.padata_type || is_number 130 item.padata_type
-
--- how a TGS-REQ asks; padata of S4U2self decide before the option cname-in-addl-tkt does (MS-SFU, section 3.2.5)
-abbrev pub tgs_branch : KdcReq → Branch
-tgs_branch message =
-    if list_any is_for_user (items_of message.padata) then SelfTicket
-    else (if has_bit 14 message.req_body.kdc_options then Proxy else Ordinary)
-
--- how a request asks for a ticket
-abbrev pub branch_of : KdcReq → Branch
-branch_of message = if is_as_req message then Initial else tgs_branch message
-
 -- a request that reads, to the realm of the directory at an index
 pub record Request : Type 0 where
   pub message : KdcReq
@@ -80,7 +60,7 @@ pub record Request : Type 0 where
   pub wish : Wish
 
 abbrev pub request_to : KdcReq → ℕ → Request
-request_to message realm = record { message = message; realm = realm; wish = as_wish message.req_body }
+request_to message realm = record { message = message; realm = realm; wish = wish_of message }
 
 abbrev pub request_of : DirectoryValue → KdcReq → Option Request
 request_of dir message = option_map (request_to message) (realm_named dir message.req_body.realm)

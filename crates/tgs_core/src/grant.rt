@@ -1,38 +1,36 @@
 //! What a granted request is given.
-ghost use Rattle.std.specs.Prelude.{◌≡◌, ◌<◌, IfOk, Some, length, true};
+ghost use Rattle.std.specs.Prelude.{◌≡◌, ◌<◌, ◌≤◌, ◌^◌, IfOk, Some, length};
 ghost use Rattle.der_core.specs.Laws.{IsBytes};
-ghost use Rattle.krb_names.specs.declared.moment.Moment.{Moment};
-ghost use Rattle.krb_messages.specs.KdcReq.{is_as_req, kdc_req};
+ghost use Rattle.krb_messages.specs.KdcReq.{kdc_req};
 ghost use Rattle.dir_core.specs.Lookups.{realm_named};
-ghost use Rattle.as_core.specs.AsRequests.{as_ask};
-ghost use Rattle.as_core.specs.AsRules.{as_terms};
 ghost use Rattle.ticket_parts.specs.Sound.{IsSound};
-ghost use Rattle.tgs_core.specs.Grants.{IsGrant, grant_of, granted_record};
+ghost use Rattle.tgs_core.specs.GrantViews.{grounds_seen};
+ghost use Rattle.tgs_core.specs.Grants.{IsGrant, IsGrounds, grant_with, granted_record};
 ghost use Rattle.tgs_core.specs.Requests.{request_to};
 
-use crate::account::{principal_of_account, subject_of_account};
+use crate::grounds::GroundsView;
 use crate::random::{bytes_fit, session_key};
-use as_core::client_account;
-use dir_core::{Account, Directory, RealmRec};
+use crate::ticket_name::ticket_name;
+use dir_core::{Directory, RealmRec};
 use kdc_records::{Terms, TicketRec};
 use krb_messages::KdcReq;
-use krb_names::{Items, Moment, Principal, TryClone};
+use krb_names::{Principal, TryClone};
 use std::alloc::{AllocError, Global};
 use std::marker::Model;
 use ticket_codec::{Holding, aim_holding};
 
-/// A granted request: the realm that is asked, the name that is asked for, for whom the ticket is sealed, and the account
-/// that asks.
+/// A granted request: the realm that is asked, the ticket's name, for whom the ticket is sealed, and on what the grant
+/// stands.
 #[derive(Drop)]
 pub(crate) struct GrantView<'a> {
     pub(crate) realm: &'a RealmRec,
     /// The realm's index.
     at: u32,
     pub(crate) req: &'a KdcReq,
-    pub(crate) server: &'a Principal,
+    pub(crate) server: Principal,
     pub(crate) terms: Terms,
     pub(crate) held: Holding,
-    pub(crate) account: &'a Account,
+    pub(crate) grounds: GroundsView<'a>,
 }
 
 impl<'a> Model for GrantView<'a> {
@@ -46,22 +44,31 @@ impl<'a> Model for GrantView<'a> {
     ghost invariant = { λ g. IsGrant (grant_seen g) };
 }
 
-/// What is granted to an AS-REQ to the realm at an index. None where the server is not named, or the client is no account
-/// of the realm.
+/// The bounds of terms, by their types.
+fn terms_fit(terms: Terms)
+    ensures flags { terms.flags < 2 ^ 32 }
+    ensures start { terms.start ≤ 253402300799 }
+    ensures end { terms.end ≤ 253402300799 }
+{
+    let _start = terms.start.secs();
+    let _end = terms.end.secs();
+}
+
+/// What is granted on these grounds to a request to the realm at an index. None where the server is not named, or the
+/// ticket is sealed for nobody.
 pub(crate) fn find_grant<'a>(
     alloc: Global,
     dir: &'a Directory,
-    now: Moment,
     realm: u32,
     req: &'a KdcReq,
+    grounds: GroundsView<'a>,
     terms: Terms,
 ) -> Result<Option<GrantView<'a>>, AllocError>
     requires realm { realm < length dir.now.realms }
     requires known { realm_named dir.now req.now.req_body.realm ≡ Some realm }
-    requires kind { is_as_req req.now ≡ true }
     requires read { kdc_req.Fits req.now }
-    requires terms { terms ≡ as_terms (as_ask dir.now realm now req.now) }
-    ensures { IfOk result (λ found. found ≡ grant_of dir.now now (request_to req.now realm)) }
+    requires grounds { IsGrounds (grounds_seen grounds) }
+    ensures { IfOk result (λ found. found ≡ grant_with dir.now (request_to req.now realm) (grounds_seen grounds.entry) terms) }
 {
     let Some(server) = &req.req_body.sname else {
         return Ok(None);
@@ -69,19 +76,18 @@ pub(crate) fn find_grant<'a>(
     let Some(held) = aim_holding(alloc, dir, realm, terms.aim)? else {
         return Ok(None);
     };
-    let Some(account) = client_account(dir, realm, req.req_body.cname.as_ref()) else {
-        return Ok(None);
-    };
     dir.keeps_directory();
     bytes_fit(req.body_bytes.as_slice());
+    terms_fit(terms);
+    let of = dir.realm(realm);
     Ok(Some(GrantView {
-        realm: dir.realm(realm),
+        realm: of,
         at: realm,
         req,
-        server,
+        server: ticket_name(alloc, of, server, terms.aim)?,
         terms,
         held,
-        account,
+        grounds,
     }))
 }
 
@@ -93,14 +99,14 @@ impl<'a> GrantView<'a> {
     {
         Ok(TicketRec {
             holder: self.held.holder.try_clone(alloc)?,
-            client: principal_of_account(alloc, self.realm, self.account)?,
-            subject: subject_of_account(alloc, self.realm, self.account)?,
+            client: self.grounds.client(alloc, self.realm)?,
+            subject: self.grounds.subject(alloc, self.realm)?,
             flags: self.terms.flags,
             session: session_key(self.terms.session, random),
-            auth: self.terms.start,
+            auth: self.grounds.auth(&self.terms),
             start: self.terms.start,
             end: self.terms.end,
-            transited: Items::new(alloc),
+            transited: self.grounds.transited(alloc)?,
             delegation: None,
         })
     }

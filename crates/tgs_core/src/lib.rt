@@ -4,13 +4,20 @@
 mod account;
 mod answered;
 mod answering;
+mod echo;
 mod error;
 mod grant;
+mod grounds;
+mod initial;
 mod laws;
 mod random;
 mod reply;
+mod reply_key;
 mod request;
 mod rules_laws;
+mod tgs;
+mod tgs_read;
+mod ticket_name;
 
 pub use answered::{Answered, Note};
 pub use answering::{answer, answer_long};

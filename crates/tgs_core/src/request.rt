@@ -1,18 +1,15 @@
 //! A request as it is read, and the rules of a request by itself (RFC 4120, sections 5.4.1 and 3.1.3).
 ghost use Rattle.std.specs.Prelude.{◌≡◌, ◌<◌, ◌≤◌, ◌^◌, IfOk, IfSome, MatchResult, None, Some, length, true};
-ghost use Rattle.std.specs.List.{list_any};
 ghost use Rattle.std.specs.Option.{option_copied};
 ghost use Rattle.kdc_prelude.specs.Verdicts.{first_failing};
-ghost use Rattle.krb_messages.specs.KdcReq.{is_as_req};
 ghost use Rattle.dir_core.specs.Lookups.{realm_named};
-ghost use Rattle.as_core.specs.Stamps.{items_of};
 ghost use Rattle.tgs_core.specs.Received.{IsReceived};
-ghost use Rattle.tgs_core.specs.Requests.{branch_of, is_for_user, is_tagged, is_version_5, is_within_limit, message_in, opening_rules, realm_is_known, tgs_branch};
+ghost use Rattle.tgs_core.specs.Requests.{is_tagged, is_version_5, is_within_limit, message_in, opening_rules, realm_is_known};
 
 use crate::random::bytes_fit;
 use dir_core::Directory;
-use kdc_records::{Branch, Rule, has_bit, kdc_option, require};
-use krb_messages::{KdcReq, PaData, PaItems};
+use kdc_records::{Rule, require};
+use krb_messages::KdcReq;
 use krb_tickets::{TicketFault, read_message};
 use std::alloc::{AllocError, Global};
 
@@ -22,13 +19,8 @@ const LONGEST_REQUEST: usize = 131_072;
 /// The tag of an AS-REQ.
 const AS_REQ: u8 = 0x6a;
 
-/// msg-type of an AS-REQ (RFC 4120, section 7.5.7).
-const KRB_AS_REQ: i32 = 10;
-
-/// Padata types of S4U2self (MS-SFU, section 2.2).
-const PA_FOR_USER: i32 = 129;
-
-const PA_S4U_X509_USER: i32 = 130;
+/// The tag of a TGS-REQ.
+const TGS_REQ: u8 = 0x6c;
 
 /// U1: it has at most 131,072 bytes.
 fn is_within_limit(bytes: &[u8]) -> bool
@@ -37,12 +29,12 @@ fn is_within_limit(bytes: &[u8]) -> bool
     bytes.len() <= LONGEST_REQUEST
 }
 
-/// U2: its first byte is the tag of an AS-REQ.
+/// U2: its first byte is the tag of an AS-REQ or a TGS-REQ.
 fn is_tagged(bytes: &[u8]) -> bool
     ensures { result ≡ is_tagged bytes.now }
 {
     match bytes {
-        [first, ..] => *first == AS_REQ,
+        [first, ..] => *first == AS_REQ || *first == TGS_REQ,
         [] => false,
     }
 }
@@ -87,46 +79,6 @@ pub(crate) fn read_request(alloc: Global, bytes: &[u8]) -> Result<Option<KdcReq>
     }
 }
 
-fn is_for_user(item: &PaData) -> bool
-    ensures { result ≡ is_for_user item.now }
-{
-    item.padata_type == PA_FOR_USER || item.padata_type == PA_S4U_X509_USER
-}
-
-/// Whether there are padata of S4U2self.
-fn has_user(padata: Option<&PaItems>) -> bool
-    ensures { result ≡ list_any is_for_user (items_of (option_copied padata.entry)) }
-{
-    match padata {
-        Some(items) => items.as_slice().iter().any(|item| is_for_user(item)),
-        None => false,
-    }
-}
-
-/// How a TGS-REQ asks.
-fn tgs_branch(message: &KdcReq) -> Branch
-    ensures { result ≡ tgs_branch message.now }
-{
-    if has_user(message.padata.as_ref()) {
-        Branch::SelfTicket
-    } else if has_bit(message.req_body.kdc_options, kdc_option::CNAME_IN_ADDL_TKT) {
-        Branch::Proxy
-    } else {
-        Branch::Ordinary
-    }
-}
-
-/// How a request asks for a ticket.
-pub(crate) fn branch_of(message: &KdcReq) -> Branch
-    ensures { result ≡ branch_of message.now }
-{
-    if message.msg_type == KRB_AS_REQ {
-        Branch::Initial
-    } else {
-        tgs_branch(message)
-    }
-}
-
 /// The index of the realm that is asked, or the first of the rules of a request by itself that fails.
 pub(crate) fn open_request(
     dir: &Directory,
@@ -137,7 +89,6 @@ pub(crate) fn open_request(
     ensures first { MatchResult result (λ realm. first_failing (opening_rules dir.now bytes.now) ≡ None) (λ rule. first_failing (opening_rules dir.now bytes.now) ≡ Some rule) }
     ensures found { IfOk result (λ realm. IfSome (option_copied message.entry) (λ read. realm_named dir.now read.req_body.realm ≡ Some realm)) }
     ensures within { IfOk result (λ realm. realm < length dir.now.realms) }
-    ensures tagged { IfOk result (λ realm. is_tagged bytes.now ≡ true) }
 {
     require(Rule::U1, is_within_limit(bytes))?;
     require(Rule::U2, is_tagged(bytes))?;
@@ -149,14 +100,4 @@ pub(crate) fn open_request(
         Some(realm) => Ok(realm),
         None => Err(Rule::U5),
     }
-}
-
-/// What is tagged as an AS-REQ reads as one.
-#[tactic(auto, using(crate::proofs::Openings::tagged_is_as_req))]
-pub(crate) fn tagged_reads_as_as_req(bytes: &[u8], message: &KdcReq)
-    requires read { message_in bytes.now ≡ Some message.now }
-    requires tagged { is_tagged bytes.now ≡ true }
-    ensures { is_as_req message.now ≡ true }
-{
-    bytes_fit(bytes);
 }

@@ -67,7 +67,7 @@ pub returns-in_err-take_turn-clause-talk : goal.returns-in_err-take_turn-clause-
 returns-in_err-take_turn-clause-talk g c =
     let p = err_from_is_err_and c.from_residual.result c.from_residual.ensures.1 in
     rw (p.1, p.2)
-    (talk_breaks c.loop-count.count c.in_err-take_turn.field-0.0
+    (talk_breaks c.loop-count.count c.loop-count-test.true c.in_err-take_turn.field-0.0
     (world (g.L.Door.callers c.args.door.now) (g.G.Changes.batches c.args.changes.now) (g.C.Clock.moments c.args.clock.now) (g.E.Entropy.blocks c.args.entropy.now) c.args.dir.now (g.O.Sink.held c.args.out.now))
     (world (g.L.Door.callers c.loop-count.door) (g.G.Changes.batches c.loop-count.changes) (g.C.Clock.moments c.loop-count.clock) (g.E.Entropy.blocks c.loop-count.entropy) c.loop-count.dir (g.O.Sink.held c.loop-count.out))
     (world (g.L.Door.callers c.take_turn.new.door) (g.G.Changes.batches c.take_turn.new.changes) (g.C.Clock.moments c.take_turn.new.clock) (g.E.Entropy.blocks c.take_turn.new.entropy) c.take_turn.new.dir (g.O.Sink.held c.take_turn.new.out))

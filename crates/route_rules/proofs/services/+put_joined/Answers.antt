@@ -1,4 +1,4 @@
-use Rattle.std.proofs.Common.{List, ℕ, subst}
+use Rattle.std.proofs.Common.{subst}
 use Rattle.std.specs.Str.{IsUtf8}
 use Rattle.route_rules.proofs.Joined.{joined_text_if}
 use Rattle.route_rules.proofs.services.+put_joined.Goals as goal

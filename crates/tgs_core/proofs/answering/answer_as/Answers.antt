@@ -6,19 +6,20 @@ use Rattle.tgs_core.proofs.answering.answer_as.Goals as goal
 pub deny-requires-clause-rule : goal.deny-requires-clause-rule
 deny-requires-clause-rule c =
     let a = c.args in
-    let opened : IsOpened a.dir.now a.request.now a.message.now a.realm = record { read = c.requires.read; found = c.requires.found; kind = c.requires.kind } in
+    let opened : IsOpened a.dir.now a.request.now a.message.now a.realm Initial = record { read = c.requires.read; found = c.requires.found; asked = c.requires.asked } in
     as_denied a.dir.now a.now a.request.now a.message.now a.realm c.in-Deny.rule c.requires.opened opened (sym c.in-Deny.is ∙ c.in_ok-rule.ensures.first)
 
-pub reply-requires-clause-terms : goal.reply-requires-clause-terms
-reply-requires-clause-terms c =
+pub reply_as-requires-clause-terms : goal.reply_as-requires-clause-terms
+reply_as-requires-clause-terms c =
     let a = c.args in
-    let opened : IsOpened a.dir.now a.request.now a.message.now a.realm = record { read = c.requires.read; found = c.requires.found; kind = c.requires.kind } in
+    let opened : IsOpened a.dir.now a.request.now a.message.now a.realm Initial = record { read = c.requires.read; found = c.requires.found; asked = c.requires.asked } in
     (as_granted a.dir.now a.now a.request.now a.message.now a.realm c.in-Grant.terms c.requires.opened opened (sym c.in-Grant.is ∙ c.in_ok-rule.ensures.first)).1
 
 pub returns-in_ok-reply-in-Grant-clause-exact : goal.returns-in_ok-reply-in-Grant-clause-exact
 returns-in_ok-reply-in-Grant-clause-exact c =
     let a = c.args in
-    let opened : IsOpened a.dir.now a.request.now a.message.now a.realm = record { read = c.requires.read; found = c.requires.found; kind = c.requires.kind } in
+    let opened : IsOpened a.dir.now a.request.now a.message.now a.realm Initial = record { read = c.requires.read; found = c.requires.found; asked = c.requires.asked } in
     let granted = as_granted a.dir.now a.now a.request.now a.message.now a.realm c.in-Grant.terms c.requires.opened opened (sym c.in-Grant.is ∙ c.in_ok-rule.ensures.first) in
-    ap (λ (bytes : List ℕ). told_of bytes (Some Initial) None) c.in_ok-reply-in-Grant.ensures.value
-    ∙ answered_granted a.dir.now a.now a.random.now a.request.now a.message.now a.realm opened granted.0
+    c.granted.ensures
+    ∙ ap (λ (bytes : List ℕ). told_of bytes (Some Initial) None) c.in_ok-reply-in-Grant.ensures.value
+    ∙ answered_granted a.dir.now a.now a.random.now a.request.now a.message.now a.realm Initial opened granted.0

@@ -1,6 +1,10 @@
-use Rattle.tgs_core.proofs.FoundGrants.{granted_in_is_grant}
+use Rattle.tgs_core.proofs.GivenGrants.{grants_are_given}
+use Rattle.tgs_core.proofs.GrantedRequests.{granted_in_is_grant}
 use Rattle.tgs_core.proofs.SoundGrants.{grant_is_sound}
 use Rattle.tgs_core.proofs.laws.grants_keep_laws.Goals as goal
 
 pub returns : goal.returns
-returns c = λ dir now bytes block grant directory request random long granted. grant_is_sound grant block (granted_in_is_grant dir now bytes grant directory request granted) long random
+returns c = record {
+  sound = λ dir now bytes block grant directory request random long granted. grant_is_sound grant block (granted_in_is_grant dir now bytes grant directory request granted) long random;
+  given = grants_are_given;
+}

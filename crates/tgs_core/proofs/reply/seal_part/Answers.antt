@@ -5,5 +5,6 @@ use Rattle.tgs_core.proofs.reply.seal_part.Goals as goal
 
 pub returns-clause-size : goal.returns-clause-size
 returns-clause-size c =
+    let with = c.args.with.now in
     ap length c.in_ok-cipher.ensures
-    ∙ length_sealed c.args.key.now 3 c.args.conf.now c.args.text.now c.key_fits.ensures (c.told-conf, bytes_below c.args.conf.now c.fits-conf) (bytes_from c.args.text.now c.type_inv.text)
+    ∙ length_sealed with.key with.usage c.args.conf.now c.args.text.now c.key_fits.ensures (c.told-conf, bytes_below c.args.conf.now c.fits-conf) (bytes_from c.args.text.now c.type_inv.text)

@@ -1,0 +1,4 @@
+pub mod Grants
+pub mod Lasts
+pub mod Stripped
+pub mod Tables

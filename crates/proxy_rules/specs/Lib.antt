@@ -1,0 +1,2 @@
+pub mod EvidenceViews
+pub mod ProxyRules

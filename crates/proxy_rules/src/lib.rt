@@ -1,0 +1,16 @@
+//! The rules of S4U2proxy, and what a request for it is granted (MS-SFU, section 3.2.5.2).
+#![tactic(auto)]
+
+mod decide;
+mod delegation_rules;
+mod evidence;
+mod evidence_rules;
+mod grant;
+mod law;
+mod parties;
+mod texts;
+
+pub use decide::decide_proxy;
+pub use evidence::EvidenceView;
+pub use grant::delegation_made;
+pub use law::granted_delegations_keep_rules;

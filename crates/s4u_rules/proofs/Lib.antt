@@ -1,0 +1,4 @@
+pub mod Agreement
+pub mod Grants
+pub mod OneParts
+pub mod Tables

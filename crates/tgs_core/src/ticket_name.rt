@@ -1,0 +1,52 @@
+//! The name of a ticket.
+ghost use Rattle.std.specs.Prelude.{◌≡◌, IfOk, is_some};
+ghost use Rattle.s4u_rules.specs.SelfRules.{enterprise_user};
+ghost use Rattle.tgs_core.specs.Grants.{account_name, ticket_name};
+
+use crate::account::principal_of_account;
+use dir_core::{Account, RealmRec};
+use kdc_records::Aim;
+use krb_names::{Principal, TryClone};
+use s4u_rules::enterprise_user;
+use std::alloc::{AllocError, Global};
+
+/// Whether it is an enterprise name of one part `a@C`.
+fn is_enterprise_name(name: &Principal) -> bool
+    ensures { result ≡ is_some (enterprise_user name.now) }
+{
+    enterprise_user(name).is_some()
+}
+
+/// The name of an account in its ticket: its own where it is asked for by such a name, else as it is asked for.
+fn account_name(
+    alloc: Global,
+    realm: &RealmRec,
+    asked: &Principal,
+    account: &Account,
+) -> Result<Principal, AllocError>
+    ensures { IfOk result (λ name. name ≡ account_name realm.now asked.now account.now) }
+{
+    if is_enterprise_name(asked) {
+        principal_of_account(alloc, realm, account)
+    } else {
+        asked.try_clone(alloc)
+    }
+}
+
+/// The name of the ticket of what is aimed at.
+pub(crate) fn ticket_name(
+    alloc: Global,
+    realm: &RealmRec,
+    asked: &Principal,
+    aim: Aim,
+) -> Result<Principal, AllocError>
+    ensures { IfOk result (λ name. name ≡ ticket_name realm.now asked.now aim) }
+{
+    match aim {
+        Aim::Krbtgt | Aim::Hop(_) => asked.try_clone(alloc),
+        Aim::Account(at) => match realm.accounts.get(at as usize) {
+            Some(account) => account_name(alloc, realm, asked, account),
+            None => asked.try_clone(alloc),
+        },
+    }
+}

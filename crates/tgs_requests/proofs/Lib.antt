@@ -1,0 +1,5 @@
+pub mod AuthTimes
+pub mod FirstHeader
+pub mod HeaderTold
+pub mod OfType
+pub mod Sizes

@@ -1,0 +1,4 @@
+pub mod Askings
+pub mod Headers
+pub mod HeaderSteps
+pub mod SelfSums
