@@ -6,6 +6,7 @@ use Rattle.dir_text.specs.DirectoryText.{directory_of}
 use Rattle.kb_base.specs.Blocks.{BlocksValue}
 use Rattle.kb_base.specs.Callers.{CallersValue}
 use Rattle.krb_names.specs.declared.moment.Moment.{Moment}
+use Rattle.kdc_run.specs.Chained.{HasChains}
 use Rattle.kdc_run.specs.Runs.{RunsOver}
 use Rattle.kdc_run.specs.Worlds.{Known, World, world}
 use Rattle.kdc_run.specs.declared.served.RunFault.{RunFault}
@@ -46,7 +47,7 @@ pub record IsRefused (text : Option (List ℕ)) (status : ℕ) (old new : Device
   pub printed : Prints old.held new.held status (one_line 4 (refusal_text refusal))
   pub unmoved : new ≡ record old { held = new.held }
 
--- so many callers were served over the directory of the text, with an outcome that the status tells
+-- so many callers were served over the directory of the text, with an outcome that the status tells; and the run's history is chained
 pub record IsRunOver (callers : ℕ) (text : Option (List ℕ)) (status : ℕ) (old new : Devices) : Type 0 where
   pub first : DirectoryValue
   pub last : DirectoryValue
@@ -54,6 +55,7 @@ pub record IsRunOver (callers : ℕ) (text : Option (List ℕ)) (status : ℕ) (
   pub reads : IfSome text (λ told. directory_of told ≡ Ok first)
   pub status_so : status ≡ run_status outcome
   pub run : Known (RunsOver callers outcome) (world_of old first) (world_of new last)
+  pub chains : IfSome (world_of old first) HasChains
 
 -- what serving does, whatever its status
 abbrev pub Serves : ℕ → Option (List ℕ) → ℕ → Devices → Devices → Type 0

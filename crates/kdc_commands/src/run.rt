@@ -32,7 +32,8 @@ pub fn run_words<D: Source, G: Changes, L: Door, C: Clock, E: Entropy, O: Sink>(
 ) -> u8
     // The status and what is printed are those of the words, the text of the directory and the input.
     ensures answer { IfSome (outcome_by (command_of (map string_bytes words.now)) (D.left dir.old) (input_of (L.callers door.old))) (Prints (O.held out.old) (O.held out.new) result) }
-    // Where callers are served, they are served as the run over the directory of the text has it; else none is sent anything.
+    // Where callers are served, they are served as the run over the directory of the text has it, and each entry of the run's history
+    // that is not tainted goes back to the first grant of its user; else none is sent anything.
     ensures devices { Uses (command_of (map string_bytes words.now)) (D.left dir.old) result (devices (L.callers door.old) (G.batches changes.old) (C.moments clock.old) (E.blocks entropy.old) (O.held out.old)) (devices (L.callers door.new) (G.batches changes.new) (C.moments clock.new) (E.blocks entropy.new) (O.held out.new)) }
 
     // Whatever the devices tell of their contents:

@@ -1,3 +1,4 @@
+pub mod Chained
 pub mod Endings
 pub mod Known
 pub mod Long

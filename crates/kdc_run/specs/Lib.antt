@@ -1,4 +1,5 @@
 pub mod Causes
+pub mod Chained
 pub mod Requests
 pub mod Runs
 pub mod Settled

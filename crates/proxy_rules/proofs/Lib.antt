@@ -1,4 +1,4 @@
+pub mod Delegations
 pub mod Grants
 pub mod Lasts
-pub mod Stripped
 pub mod Tables

@@ -1,2 +1,3 @@
+pub mod Delegations
 pub mod EvidenceViews
 pub mod ProxyRules

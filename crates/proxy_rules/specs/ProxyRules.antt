@@ -1,8 +1,9 @@
 -- The rules of S4U2proxy (MS-SFU, section 3.2.5.2), and what a request for it is granted.
-use Rattle.std.specs.Prelude.{◌≡◌, ℕ, ◌+◌, ◌&&◌, ◌||◌, Bool, true, not, min, nat_le, nat_lt, List, [], ◌∷◌, ◌++◌, length, Option, None, Some, slice_get, if◌then◌else◌}
+use Rattle.std.specs.Prelude.{◌≡◌, ℕ, ◌+◌, ◌&&◌, ◌||◌, Bool, true, false, not, min, nat_le, nat_lt, List, [], ◌∷◌, ◌++◌, length, Option, None, Some, is_some, slice_get, if◌then◌else◌}
 use Rattle.std.specs.List.{join_with_byte, list_any}
 use Rattle.kdc_prelude.specs.Options.{holds_of}
-use Rattle.kdc_prelude.specs.Texts.{is_one_of, same_text}
+use Rattle.kdc_prelude.specs.Steps.{◌>>=◌}
+use Rattle.kdc_prelude.specs.Texts.{same_text}
 use Rattle.kdc_prelude.specs.Verdicts.{first_failing}
 use Rattle.krb_names.specs.declared.moment.Moment.{Moment}
 use Rattle.krb_names.specs.declared.principal.Principal.{Principal}
@@ -23,11 +24,13 @@ use Rattle.kdc_records.specs.Bits.{bit_if, has_bit}
 use Rattle.kdc_records.specs.Decisions.{decided}
 use Rattle.kdc_records.specs.Wishes.{end_by, session_type}
 use Rattle.dir_records.specs.declared.records.Account.{Account as AccountRec}
+use Rattle.dir_records.specs.declared.records.RealmRec.{RealmRec}
 use Rattle.dir_records.specs.DirectoryValue.{DirectoryValue}
 use Rattle.dir_core.specs.Lookups.{account_at}
+use Rattle.route_rules.specs.Aims.{resolve_account}
 use Rattle.route_rules.specs.Cross.{is_reached_subject, is_reached_way, issuing_realm}
 use Rattle.s4u_rules.specs.Conditions.{lists_target}
-use Rattle.s4u_rules.specs.TgsRules.{end_is_later, is_local, longest_life, requestor_record}
+use Rattle.s4u_rules.specs.TgsRules.{end_is_later, is_local, issuer_is_appended, longest_life, requestor_record}
 
 -- ---- the evidence: the additional ticket, as the rules see it
 
@@ -42,17 +45,15 @@ pub data SeenEvidence : Type 0 where
   Wrong : Rule → SeenEvidence  -- the first of the rules P1 to P5 that fails
   Shown : ShownEvidence → SeenEvidence
 
--- ---- the requestor, and what is aimed at
+-- ---- the requestor, and what is asked for
 
 -- the requestor, the header's client, is of the realm at an index
 abbrev pub requestor_is_local : DirectoryValue → ℕ → TicketRec → Bool
 requestor_is_local dir at header = holds_of (λ realm. is_local realm header) (slice_get dir.realms at)
 
--- the account that is aimed at, of the realm at an index
-abbrev pub aimed_account : DirectoryValue → ℕ → Aim → Option AccountRec
-aimed_account dir at Krbtgt = None
-aimed_account dir at (Hop trust) = None
-aimed_account dir at (Account account) = account_at dir at account
+-- the name that is asked for is an account's, of this realm or of another
+abbrev pub target_is_account : DirectoryValue → ℕ → Wish → Bool
+target_is_account dir at wish = is_some (wish.server >>= resolve_account dir at)
 
 -- ---- the rules
 
@@ -124,11 +125,22 @@ abbrev pub by_targets_list : Wish → TicketRec → TicketRec → AccountRec →
 by_targets_list wish header evidence target =
     wish.rbcd && user_may_be_delegated evidence && list_any (same_sid header.subject.sid) target.resource
 
--- P11: the target is an account of this realm, and it or the requestor lists the other (MS-SFU, section 3.2.5.2; referrals are not
--- answered yet)
+-- the target is an account of this realm, and it or the requestor lists the other
+abbrev pub by_lists : DirectoryValue → ℕ → Wish → TicketRec → TicketRec → Option AccountRec → Bool
+by_lists dir at wish header evidence target =
+    holds_of (λ account. by_own_list dir at header evidence account || by_targets_list wish header evidence account) target
+
+-- a referral to the realm of a target that is another realm's account: resource-based delegation is asked for, and the user is not
+-- marked; whether the target lists the requestor is for its realm to say (MS-SFU, section 3.2.5.2)
+abbrev pub by_referral : DirectoryValue → ℕ → Wish → TicketRec → Bool
+by_referral dir at wish evidence = target_is_account dir at wish && wish.rbcd && user_may_be_delegated evidence
+
+-- P11: the target is an account of this realm, and it or the requestor lists the other; or it is an account of another realm, and the
+-- request is referred there (MS-SFU, section 3.2.5.2)
 abbrev pub delegation_is_allowed : DirectoryValue → ℕ → Wish → TicketRec → TicketRec → Aim → Bool
-delegation_is_allowed dir at wish header evidence aim =
-    holds_of (λ target. by_own_list dir at header evidence target || by_targets_list wish header evidence target) (aimed_account dir at aim)
+delegation_is_allowed dir at wish header evidence Krbtgt = false
+delegation_is_allowed dir at wish header evidence (Hop trust) = by_referral dir at wish evidence
+delegation_is_allowed dir at wish header evidence (Account account) = by_lists dir at wish header evidence (account_at dir at account)
 
 -- the services that have delegated
 abbrev pub services_of : Option Delegation → List (List ℕ)
@@ -191,11 +203,6 @@ pub record ProxyGrants (dir : DirectoryValue) (at : ℕ) (now : Moment) (wish : 
 abbrev pub proxy_flags : Wish → TicketRec → ℕ
 proxy_flags wish evidence = bit_if 1 (has_bit 1 wish.options && is_forwardable evidence)
 
--- the realm that issued a cross-realm evidence ticket comes behind the realms on its way, unless it is the user's or among them
-abbrev pub issuer_is_appended : TicketRec → Bool
-issuer_is_appended evidence =
-    holds_of (λ issuer. not (same_text issuer evidence.subject.realm) && not (is_one_of evidence.transited issuer)) (issuing_realm evidence.holder)
-
 abbrev pub proxy_terms : DirectoryValue → ℕ → Moment → Wish → TicketRec → TicketRec → Aim → Terms
 proxy_terms dir at now wish header evidence aim = record {
   aim = aim;
@@ -213,12 +220,12 @@ proxy_decision dir at now wish header aim (Shown evidence) =
     decided (proxy_verdict dir at now wish header aim (Shown evidence)) (proxy_terms dir at now wish header evidence.rec aim)
 
 -- the requestor, where it is of this realm
-abbrev pub requestor_text : DirectoryValue → ℕ → TicketRec → List (List ℕ)
-requestor_text dir at header = if requestor_is_local dir at header then name_text header.client ∷ [] else []
+abbrev pub requestor_text : RealmRec → TicketRec → List (List ℕ)
+requestor_text realm header = if is_local realm header then name_text header.client ∷ [] else []
 
 -- the services that delegated, and the requestor after them where it is of this realm
-abbrev pub delegation_made : DirectoryValue → ℕ → Principal → TicketRec → TicketRec → Delegation
-delegation_made dir at server header evidence = record {
+abbrev pub delegation_made : RealmRec → Principal → TicketRec → TicketRec → Delegation
+delegation_made realm server header evidence = record {
   target = target_text server;
-  services = services_of evidence.delegation ++ requestor_text dir at header;
+  services = services_of evidence.delegation ++ requestor_text realm header;
 }

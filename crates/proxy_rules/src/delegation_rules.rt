@@ -3,14 +3,15 @@ ghost use Rattle.std.specs.Prelude.{◌≡◌, ◌<◌, length, min};
 ghost use Rattle.std.specs.Option.{option_copied};
 ghost use Rattle.s4u_rules.specs.Conditions.{lists_target};
 ghost use Rattle.s4u_rules.specs.TgsRules.{end_is_later};
-ghost use Rattle.proxy_rules.specs.ProxyRules.{by_own_list, by_targets_list, chain_is_short, delegation_is_allowed, proxy_end, services_of};
+ghost use Rattle.proxy_rules.specs.ProxyRules.{by_lists, by_own_list, by_referral, by_targets_list, chain_is_short, delegation_is_allowed, proxy_end, services_of, target_is_account};
 
 use crate::evidence_rules::{is_forwardable, user_may_be_delegated};
-use crate::parties::{aimed_account, requestor_is_local, requestor_record};
+use crate::parties::{requestor_is_local, requestor_record};
 use dir_core::{Account, Directory, has_text};
 use dir_records::is_among;
 use kdc_records::{Aim, Delegation, TicketRec, Wish, end_by};
 use krb_names::{KTime, Moment, Text};
+use route_rules::resolve_account;
 
 /// As many services have delegated at most, once the requestor has.
 const MOST_SERVICES: usize = 32;
@@ -52,7 +53,48 @@ fn by_targets_list(wish: &Wish, header: &TicketRec, evidence: &TicketRec, target
         && is_among(&header.subject.sid, target.resource.as_slice())
 }
 
-/// P11: the target is an account of this realm, and it or the requestor lists the other.
+/// Whether the target is an account of this realm, and it or the requestor lists the other.
+fn by_lists(
+    dir: &Directory,
+    realm: u32,
+    wish: &Wish,
+    header: &TicketRec,
+    evidence: &TicketRec,
+    target: Option<&Account>,
+) -> bool
+    requires { realm < length dir.now.realms }
+    ensures { result ≡ by_lists dir.now realm wish.now header.now evidence.now (option_copied target.entry) }
+{
+    match target {
+        Some(target) => {
+            by_own_list(dir, realm, header, evidence, target)
+                || by_targets_list(wish, header, evidence, target)
+        }
+        None => false,
+    }
+}
+
+/// Whether the name that is asked for is an account's, of this realm or of another.
+fn target_is_account(dir: &Directory, realm: u32, wish: &Wish) -> bool
+    requires { realm < length dir.now.realms }
+    ensures { result ≡ target_is_account dir.now realm wish.now }
+{
+    match &wish.server {
+        Some(server) => resolve_account(dir, realm, server).is_some(),
+        None => false,
+    }
+}
+
+/// Whether the request is referred to the realm of a target that is another realm's account.
+fn by_referral(dir: &Directory, realm: u32, wish: &Wish, evidence: &TicketRec) -> bool
+    requires { realm < length dir.now.realms }
+    ensures { result ≡ by_referral dir.now realm wish.now evidence.now }
+{
+    target_is_account(dir, realm, wish) && wish.rbcd && user_may_be_delegated(evidence)
+}
+
+/// P11: the target is an account of this realm, and it or the requestor lists the other; or it is an account of another
+/// realm, and the request is referred there.
 pub(crate) fn delegation_is_allowed(
     dir: &Directory,
     realm: u32,
@@ -64,11 +106,14 @@ pub(crate) fn delegation_is_allowed(
     requires { realm < length dir.now.realms }
     ensures { result ≡ delegation_is_allowed dir.now realm wish.now header.now evidence.now aim }
 {
-    let Some(target) = aimed_account(dir, realm, aim) else {
-        return false;
-    };
-    by_own_list(dir, realm, header, evidence, target)
-        || by_targets_list(wish, header, evidence, target)
+    match aim {
+        Aim::Krbtgt => false,
+        Aim::Hop(_) => by_referral(dir, realm, wish, evidence),
+        Aim::Account(account) => {
+            let target = dir.account_at(realm, account);
+            by_lists(dir, realm, wish, header, evidence, target)
+        }
+    }
 }
 
 /// The services that have delegated.

@@ -4,12 +4,11 @@ ghost use Rattle.std.specs.Option.{option_copied};
 ghost use Rattle.proxy_rules.specs.ProxyRules.{cross_evidence_agrees, evidence_agrees, evidence_is_reached, evidence_lasts, evidence_may_be_used, is_delegated_to, is_forwardable, last_of, user_is_delegable, user_may_be_delegated};
 
 use crate::evidence::ShownView;
-use crate::parties::issuing_realm;
-use crate::texts::{is_joined, is_name_text};
 use dir_core::Directory;
 use kdc_records::{Delegation, TicketRec, Wish, has_bit, ticket_flag};
 use krb_names::{Moment, Principal, Text};
 use route_rules::cross_ok;
+use s4u_rules::{is_joined, is_name_text, issuing_realm};
 
 /// How long after now an evidence may start, in seconds.
 const LATEST_START: u64 = 300;

@@ -2,16 +2,17 @@
 ghost use Rattle.std.specs.Prelude.{◌≡◌, ◌++◌, ◌<◌, IfOk, length};
 ghost use Rattle.std.specs.Option.{option_copied};
 ghost use Rattle.krb_names.specs.NameTexts.{name_text};
-ghost use Rattle.proxy_rules.specs.ProxyRules.{delegation_made, issuer_is_appended, proxy_flags, proxy_terms, requestor_text, services_of, target_text};
+ghost use Rattle.proxy_rules.specs.ProxyRules.{delegation_made, proxy_flags, proxy_terms, requestor_text, services_of, target_text};
 
 use crate::delegation_rules::{proxy_end, services_of};
 use crate::evidence_rules::is_forwardable;
-use crate::parties::{issuing_realm, requestor_is_local};
-use dir_core::{Directory, has_text};
+use crate::parties::is_local;
+use dir_core::{Directory, RealmRec};
 use kdc_records::{
     Aim, Delegation, Terms, TicketRec, Wish, bit_if, has_bit, kdc_option, session_type, ticket_flag,
 };
 use krb_names::{KTime, Moment, Principal, Text, Texts, push_joined, push_name};
+use s4u_rules::issuer_is_appended;
 use std::alloc::{AllocError, Global};
 
 /// The flags of the ticket: forwardable where that is asked for and the evidence is.
@@ -20,19 +21,6 @@ fn proxy_flags(wish: &Wish, evidence: &TicketRec) -> u32
 {
     let forwardable = has_bit(wish.options, kdc_option::FORWARDABLE) && is_forwardable(evidence);
     bit_if(ticket_flag::FORWARDABLE, forwardable)
-}
-
-/// Whether the realm that issued a cross-realm evidence ticket comes behind the realms on its way.
-fn issuer_is_appended(evidence: &TicketRec) -> bool
-    ensures { result ≡ issuer_is_appended evidence.now }
-{
-    match issuing_realm(&evidence.holder) {
-        Some(issuer) => {
-            issuer.as_str() != evidence.subject.realm.as_str()
-                && !has_text(evidence.transited.as_slice(), issuer.as_str())
-        }
-        None => false,
-    }
 }
 
 /// What the ticket has.
@@ -76,39 +64,35 @@ fn name_text(alloc: Global, name: &Principal) -> Result<Text, AllocError>
     Ok(Text::from_string(text))
 }
 
-/// The services that delegated, and the requestor after them where it is of the realm at an index.
+/// The services that delegated, and the requestor after them where it is of this realm.
 fn services_made(
     alloc: Global,
-    dir: &Directory,
-    realm: u32,
+    realm: &RealmRec,
     header: &TicketRec,
     evidence: &TicketRec,
 ) -> Result<Texts, AllocError>
-    requires { realm < length dir.now.realms }
-    ensures { IfOk result (λ made. made ≡ services_of evidence.now.delegation ++ requestor_text dir.now realm header.now) }
+    ensures { IfOk result (λ made. made ≡ services_of evidence.now.delegation ++ requestor_text realm.now header.now) }
 {
     let mut services = Texts::copy(alloc, services_of(evidence.delegation.as_ref()))?;
-    if requestor_is_local(dir, realm, header) {
+    if is_local(realm, header) {
         services.push(name_text(alloc, &header.client)?)?;
     }
     Ok(services)
 }
 
 /// How a granted ticket is delegated: to the name that is asked for, by the services that delegated its evidence, and by
-/// the requestor after them where that is of the realm at an index.
+/// the requestor after them where that is of this realm.
 pub fn delegation_made(
     alloc: Global,
-    dir: &Directory,
-    realm: u32,
+    realm: &RealmRec,
     server: &Principal,
     header: &TicketRec,
     evidence: &TicketRec,
 ) -> Result<Delegation, AllocError>
-    requires { realm < length dir.now.realms }
-    ensures { IfOk result (λ made. made ≡ delegation_made dir.now realm server.now header.now evidence.now) }
+    ensures { IfOk result (λ made. made ≡ delegation_made realm.now server.now header.now evidence.now) }
 {
     Ok(Delegation {
         target: target_text(alloc, server)?,
-        services: services_made(alloc, dir, realm, header, evidence)?,
+        services: services_made(alloc, realm, header, evidence)?,
     })
 }

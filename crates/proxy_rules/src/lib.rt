@@ -8,9 +8,8 @@ mod evidence_rules;
 mod grant;
 mod law;
 mod parties;
-mod texts;
 
 pub use decide::decide_proxy;
 pub use evidence::EvidenceView;
 pub use grant::delegation_made;
-pub use law::granted_delegations_keep_rules;
+pub use law::{delegations_can_be_written, granted_delegations_keep_rules};

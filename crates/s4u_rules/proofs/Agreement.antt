@@ -8,6 +8,7 @@ use Rattle.kdc_prelude.specs.Options.{holds_of}
 use Rattle.kdc_prelude.specs.Steps.{◌>>=◌}
 use Rattle.kdc_prelude.specs.Texts.{same_text}
 use Rattle.kdc_prelude.specs.Verdicts.{first_failing}
+use Rattle.kdc_prelude.proofs.Bools.{both}
 use Rattle.krb_names.specs.declared.principal.Principal.{Principal}
 use Rattle.kdc_records.specs.declared.decision.Aim.{Aim}
 use Rattle.kdc_records.specs.declared.decision.Aim.TheVariants.{Account}
@@ -33,14 +34,10 @@ use Rattle.s4u_rules.specs.Agreement.{AnswersAgree, Asks, RulesAgree, name_of}
 use Rattle.s4u_rules.specs.AskSelf.{is_forwardable, self_question, self_rules as question_rules}
 use Rattle.s4u_rules.specs.Conditions.{has_spn, is_enabled, may_be_delegated}
 use Rattle.s4u_rules.specs.Outcomes.{outcome}
-use Rattle.s4u_rules.specs.SelfRules.{aim_is_trusted, is_served_client, self_flags, server_is_the_requestor, user_asked, user_is_enabled, user_is_known, user_is_local, user_is_of_this_realm, user_may_be_delegated, user_record, user_record_in}
+use Rattle.s4u_rules.specs.SelfRules.{aim_is_trusted, is_served_client, is_user_of, self_flags, server_is_the_requestor, user_asked, user_fits_header, user_is_enabled, user_is_known, user_is_local, user_may_be_delegated, user_record, user_record_in}
 use Rattle.s4u_rules.specs.TgsRules.{aim_of, has_sid_of, is_for_its_client, is_local, is_the_subject, may_be_forwardable, requestor_is_enabled, requestor_is_known, requestor_record}
 
--- ---- choices
-
-and_true : (a : Bool) → (a && true) ≡ a
-and_true true = refl
-and_true false = refl
+-- ---- texts
 
 same_itself : (text : List ℕ) → same_text text text ≡ true
 same_itself text = nat_list_eq_equiv.refl text
@@ -158,13 +155,37 @@ user_row dir at realm part of wish test well is user here =
     ∙ ap (λ (b : Bool). not b || test (user_record dir at (name_of part of))) (local_is dir at realm part of is ∙ here)
     ∙ ap test (record_is dir at realm part of well is here)
 
-realm_row : (dir : DirectoryValue) (at : ℕ) (realm : RealmRec) (part of : List ℕ) (wish : Wish) (rec : TicketRec) → slice_get dir.realms at ≡ Some realm
-    → wish.user ≡ Some (name_of part of) → is_for_its_client rec ≡ true → holds_of (user_is_of_this_realm dir at rec) wish.user ≡ same_text of realm.name
-realm_row dir at realm part of wish rec is user own =
-    ap (holds_of (user_is_of_this_realm dir at rec)) user
-    ∙ ap (λ (b : Bool). user_is_local dir at (name_of part of) && b) own
-    ∙ and_true (user_is_local dir at (name_of part of))
-    ∙ local_is dir at realm part of is
+-- of two equal texts, what is not the one is not the other
+other_text : (a b text : List ℕ) → same_text a b ≡ true → same_text text a ≡ false → same_text b text ≡ false
+other_text a b text same other = by_test (same_text b text) refl
+  where
+    by_test : (t : Bool) → same_text b text ≡ t → same_text b text ≡ false
+    by_test true e =
+        let text_is_a : text ≡ a = sym (equal_texts b text (sym e)) ∙ sym (equal_texts a b (sym same)) in
+        let agrees : same_text text a ≡ true = ap (λ (t : List ℕ). same_text t a) text_is_a ∙ same_itself a in
+        absurd (cc)
+    by_test false e = e
+
+-- where the header is for its own client, of this realm, it is not for a user of another
+not_for : (realm : RealmRec) (service part of : List ℕ) (rec : TicketRec) → rec.client ≡ name_of service realm.name → is_for_its_client rec ≡ true
+    → same_text of realm.name ≡ false → is_user_of rec.subject (name_of part of) ≡ false
+not_for realm service part of rec client own other =
+    let its_own = sym (ap (is_user rec.subject.name rec.subject.realm) client) ∙ own in
+    let realms = both (same_text service rec.subject.name && true) (same_text realm.name rec.subject.realm) its_own in
+    ap (λ (asked : List ℕ × List ℕ). same_text rec.subject.realm asked.1 && same_text rec.subject.name asked.0) (asked_is part of)
+    ∙ ap (λ (b : Bool). b && same_text rec.subject.name part) (other_text realm.name rec.subject.realm of realms.1 other)
+
+realm_row : (dir : DirectoryValue) (at : ℕ) (realm : RealmRec) (service part of : List ℕ) (wish : Wish) (rec : TicketRec) → slice_get dir.realms at ≡ Some realm
+    → wish.user ≡ Some (name_of part of) → rec.client ≡ name_of service realm.name → is_for_its_client rec ≡ true
+    → holds_of (user_fits_header dir at rec) wish.user ≡ same_text of realm.name
+realm_row dir at realm service part of wish rec is user client own =
+    ap (holds_of (user_fits_header dir at rec)) user
+    ∙ ap (λ (b : Bool). if b then is_for_its_client rec else is_user_of rec.subject (name_of part of)) (local_is dir at realm part of is)
+    ∙ by_test (same_text of realm.name) refl
+  where
+    by_test : (t : Bool) → same_text of realm.name ≡ t → (if t then is_for_its_client rec else is_user_of rec.subject (name_of part of)) ≡ t
+    by_test true e = own
+    by_test false e = not_for realm service part of rec client own e
 
 -- ---- the rules
 
@@ -180,7 +201,7 @@ pub rules_agree : (dir : DirectoryValue) (at : ℕ) (realm : RealmRec) (service 
 rules_agree dir at realm service user user_realm wish rec well h =
     let found = requestor_found dir at realm service rec well h.realm_is h.client in
     let account = account_of dir (name_of service realm.name) in
-    agree (requestor_is_known dir at rec) (requestor_is_enabled dir at rec) (server_is_the_requestor dir at wish rec) (holds_of (user_is_of_this_realm dir at rec) wish.user)
+    agree (requestor_is_known dir at rec) (requestor_is_enabled dir at rec) (server_is_the_requestor dir at wish rec) (holds_of (user_fits_header dir at rec) wish.user)
     (holds_of (user_is_known dir at) wish.user) (holds_of (user_is_enabled dir at) wish.user)
     (is_some account) (holds_of is_enabled account) (holds_of has_spn account) (same_text user_realm realm.name)
     (is_some (account_of dir (name_of user user_realm))) (holds_of is_enabled (account_of dir (name_of user user_realm)))
@@ -188,7 +209,7 @@ rules_agree dir at realm service user user_realm wish rec well h =
     ∙ ap (holds_of (is_the_subject realm rec)) found ∙ known_row account realm rec h.sid)
     (local_row dir at realm service rec (λ r. holds_of is_enabled (requestor_record dir at rec)) h.realm_is h.client ∙ ap (holds_of is_enabled) found)
     (server_row dir at realm service wish rec well h.realm_is h.server h.client)
-    (realm_row dir at realm user user_realm wish rec h.realm_is h.named h.own)
+    (realm_row dir at realm service user user_realm wish rec h.realm_is h.named h.client h.own)
     (λ here. user_row dir at realm user user_realm wish is_some well h.realm_is h.named here)
     (λ here. user_row dir at realm user user_realm wish (holds_of is_enabled) well h.realm_is h.named here)
 

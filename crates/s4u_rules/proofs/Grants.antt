@@ -15,9 +15,9 @@ use Rattle.dir_records.specs.DirectoryValue.{DirectoryValue}
 use Rattle.route_rules.specs.Cross.{is_reached_subject, is_reached_way}
 use Rattle.s4u_rules.specs.Granted.{EndsLater, HeaderGrants, SelfGrants}
 use Rattle.s4u_rules.specs.Headers.{SeenHeader, Shown, ShownHeader, Wrong}
-use Rattle.s4u_rules.specs.SelfRules.{SeenSelf, self_decision, self_rules, self_terms, self_verdict, server_is_the_requestor, user_is_enabled, user_is_known, user_is_of_this_realm}
+use Rattle.s4u_rules.specs.SelfRules.{SeenSelf, self_decision, self_rules, self_terms, self_verdict, server_is_the_requestor, user_fits_header, user_is_enabled, user_is_known}
 use Rattle.s4u_rules.specs.SelfRules as selves
-use Rattle.s4u_rules.specs.TgsRules.{aim_is_enabled, aim_is_local, aim_of, end_is_later, end_within, etype_is_listed, header_has_begun, header_is_certified, header_is_own, header_lasts, header_rules, header_verdict, options_are_plain, ordinary_decision, ordinary_rules, ordinary_terms, requestor_is_enabled, requestor_is_known, stamp_is_fresh, start_is_now}
+use Rattle.s4u_rules.specs.TgsRules.{aim_is_allowed, aim_is_enabled, aim_may_be_asked, aim_of, end_is_later, end_within, etype_is_listed, header_has_begun, header_is_certified, header_is_own, header_lasts, header_rules, header_verdict, options_are_plain, ordinary_decision, ordinary_rules, ordinary_terms, requestor_is_enabled, requestor_is_known, stamp_is_fresh, start_is_now}
 
 -- the first row holds, and no later one fails
 passes : {R : Type 0} (rule : R) (b : Bool) (rows : List (R × Bool)) → first_failing ((rule, b) ∷ rows) ≡ None → (b ≡ true) × (first_failing rows ≡ None)
@@ -48,12 +48,12 @@ shown dir at now wish header h =
     let g16 = passes G16 (holds_of (is_reached_way dir at) header.rec) (drop 8 rows) g15.1 in
     let g17 = passes G17 (start_is_now now wish) (drop 9 rows) g16.1 in
     let g18 = passes G18 (options_are_plain wish) (drop 10 rows) g17.1 in
-    let g19 = passes G19 (holds_of aim_is_local (aim_of dir at wish)) (drop 11 rows) g18.1 in
+    let g19 = passes G19 (holds_of (aim_may_be_asked header.rec) (aim_of dir at wish)) (drop 11 rows) g18.1 in
     let g20 = passes G20 (holds_of (aim_is_enabled dir at) (aim_of dir at wish)) (drop 12 rows) g19.1 in
     let g21 = passes G21 (etype_is_listed wish) (drop 13 rows) g20.1 in
     let g22 = passes G22 (holds_of (header_is_own wish) header.rec) (drop 14 rows) g21.1 in
     let certified = there header.rec g12.0 in
-    let aimed = found aim_is_local (aim_of dir at wish) g19.0 in
+    let aimed = found (aim_may_be_asked header.rec) (aim_of dir at wish) g19.0 in
     let rec = certified.0 in
     record {
       header = header;
@@ -71,7 +71,7 @@ shown dir at now wish header h =
       plain = g18.0;
       aim = aimed.0;
       aimed = aimed.1;
-      here = aimed.2;
+      allowed = of_found (λ (one : TicketRec). aim_is_allowed one aimed.0) header.rec rec certified.1 aimed.2;
       aim_enabled = of_found (aim_is_enabled dir at) (aim_of dir at wish) aimed.0 aimed.1 g20.0;
       listed = g21.0;
       own = of_found (header_is_own wish) header.rec rec certified.1 g22.0;
@@ -93,17 +93,17 @@ self_shown : (dir : DirectoryValue) (at : ℕ) (now : Moment) (wish : Wish) (rec
 self_shown dir at now wish rec h =
     let rows = self_rules dir at now wish rec in
     let s4 = passes S4 (server_is_the_requestor dir at wish rec) (drop 1 rows) h in
-    let s5 = passes S5 (holds_of (user_is_of_this_realm dir at rec) wish.user) (drop 2 rows) s4.1 in
+    let s5 = passes S5 (holds_of (user_fits_header dir at rec) wish.user) (drop 2 rows) s4.1 in
     let s6 = passes S6 (holds_of (user_is_known dir at) wish.user) (drop 3 rows) s5.1 in
     let s7 = passes S7 (holds_of (user_is_enabled dir at) wish.user) (drop 4 rows) s6.1 in
     let t1 = passes T1 (end_is_later now (end_within dir at now wish rec)) [] s7.1 in
-    let named = found (user_is_of_this_realm dir at rec) wish.user s5.0 in
+    let named = found (user_fits_header dir at rec) wish.user s5.0 in
     record {
       shown = refl;
       requested = s4.0;
       user = named.0;
       named = named.1;
-      of_this_realm = named.2;
+      fits = named.2;
       user_known = of_found (user_is_known dir at) wish.user named.0 named.1 s6.0;
       user_enabled = of_found (user_is_enabled dir at) wish.user named.0 named.1 s7.0;
       lasting = t1.0;

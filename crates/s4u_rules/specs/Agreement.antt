@@ -16,7 +16,7 @@ use Rattle.dir_core.specs.Lookups.{account_of}
 use Rattle.s4u_rules.specs.AskSelf.{self_answer, self_question, self_rules as question_rules}
 use Rattle.s4u_rules.specs.Conditions.{may_be_delegated}
 use Rattle.s4u_rules.specs.Outcomes.{outcome}
-use Rattle.s4u_rules.specs.SelfRules.{self_flags, server_is_the_requestor, user_is_enabled, user_is_known, user_is_of_this_realm}
+use Rattle.s4u_rules.specs.SelfRules.{self_flags, server_is_the_requestor, user_fits_header, user_is_enabled, user_is_known}
 use Rattle.s4u_rules.specs.TgsRules.{aim_of, has_sid_of, is_for_its_client, requestor_is_enabled, requestor_is_known}
 
 -- a name of kind 1 (NT-PRINCIPAL) and one part, in a realm
@@ -39,7 +39,7 @@ request_rules dir at wish rec =
     (G13, requestor_is_known dir at rec)
     ∷ (G14, requestor_is_enabled dir at rec)
     ∷ (S4, server_is_the_requestor dir at wish rec)
-    ∷ (S5, holds_of (user_is_of_this_realm dir at rec) wish.user)
+    ∷ (S5, holds_of (user_fits_header dir at rec) wish.user)
     ∷ (S6, holds_of (user_is_known dir at) wish.user)
     ∷ (S7, holds_of (user_is_enabled dir at) wish.user)
     ∷ []

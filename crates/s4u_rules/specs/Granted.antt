@@ -8,9 +8,9 @@ use Rattle.kdc_records.specs.declared.wish.Wish.{Wish}
 use Rattle.dir_records.specs.DirectoryValue.{DirectoryValue}
 use Rattle.route_rules.specs.Cross.{is_reached_subject, is_reached_way}
 use Rattle.s4u_rules.specs.Headers.{SeenHeader, Shown, ShownHeader}
-use Rattle.s4u_rules.specs.SelfRules.{SeenSelf, server_is_the_requestor, user_is_enabled, user_is_known, user_is_of_this_realm}
+use Rattle.s4u_rules.specs.SelfRules.{SeenSelf, server_is_the_requestor, user_fits_header, user_is_enabled, user_is_known}
 use Rattle.s4u_rules.specs.SelfRules as selves
-use Rattle.s4u_rules.specs.TgsRules.{aim_is_enabled, aim_is_local, aim_of, end_is_later, end_within, etype_is_listed, header_has_begun, header_is_own, header_lasts, options_are_plain, requestor_is_enabled, requestor_is_known, stamp_is_fresh, start_is_now}
+use Rattle.s4u_rules.specs.TgsRules.{aim_is_allowed, aim_is_enabled, aim_of, end_is_later, end_within, etype_is_listed, header_has_begun, header_is_own, header_lasts, options_are_plain, requestor_is_enabled, requestor_is_known, stamp_is_fresh, start_is_now}
 
 -- by its header, which was opened and has a record, and by what it asks for, which aims at something
 pub record HeaderGrants (dir : DirectoryValue) (at : ℕ) (now : Moment) (wish : Wish) (seen : SeenHeader) : Type 0 where
@@ -29,7 +29,7 @@ pub record HeaderGrants (dir : DirectoryValue) (at : ℕ) (now : Moment) (wish :
   pub plain : options_are_plain wish ≡ true
   pub aim : Aim
   pub aimed : aim_of dir at wish ≡ Some aim
-  pub here : aim_is_local aim ≡ true
+  pub allowed : aim_is_allowed rec aim ≡ true
   pub aim_enabled : aim_is_enabled dir at aim ≡ true
   pub listed : etype_is_listed wish ≡ true
   pub own : header_is_own wish rec ≡ true
@@ -44,7 +44,7 @@ pub record SelfGrants (dir : DirectoryValue) (at : ℕ) (now : Moment) (wish : W
   pub requested : server_is_the_requestor dir at wish rec ≡ true
   pub user : Principal
   pub named : wish.user ≡ Some user
-  pub of_this_realm : user_is_of_this_realm dir at rec user ≡ true
+  pub fits : user_fits_header dir at rec user ≡ true
   pub user_known : user_is_known dir at user ≡ true
   pub user_enabled : user_is_enabled dir at user ≡ true
   pub lasting : EndsLater dir at now wish rec

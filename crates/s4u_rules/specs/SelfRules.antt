@@ -13,6 +13,7 @@ use Rattle.kdc_records.specs.declared.decision.Decision.{Decision}
 use Rattle.kdc_records.specs.declared.decision.Terms.{Terms}
 use Rattle.kdc_records.specs.declared.rule.Rule.{Rule}
 use Rattle.kdc_records.specs.declared.rule.Rule.TheVariants.{S4, S5, S6, S7, T1}
+use Rattle.kdc_records.specs.declared.subject.Subject.{Subject}
 use Rattle.kdc_records.specs.declared.ticket_rec.TicketRec.{TicketRec}
 use Rattle.kdc_records.specs.declared.wish.Wish.{Wish}
 use Rattle.kdc_records.specs.Bits.{bit_if, has_bit}
@@ -25,7 +26,7 @@ use Rattle.dir_core.specs.Lookups.{account_at, account_named, only_part}
 use Rattle.route_rules.specs.Aims.{resolve_account}
 use Rattle.route_rules.specs.Meanings.{enterprise_pieces}
 use Rattle.s4u_rules.specs.Conditions.{has_spn, is_enabled, may_be_delegated}
-use Rattle.s4u_rules.specs.TgsRules.{end_is_later, end_within, is_for_its_client, may_be_forwardable, terms_with}
+use Rattle.s4u_rules.specs.TgsRules.{end_is_later, end_within, is_for_its_client, issuer_is_appended, may_be_forwardable, terms_with}
 
 -- what was read of the padata of S4U2self
 pub data SeenSelf : Type 0 where
@@ -61,6 +62,10 @@ user_record dir at name = slice_get dir.realms at >>= λ realm. user_record_in d
 abbrev pub user_is_local : DirectoryValue → ℕ → Principal → Bool
 user_is_local dir at name = holds_of (λ realm. same_text (user_asked name).1 realm.name) (slice_get dir.realms at)
 
+-- the user of a ticket is the one that a name asks for
+abbrev pub is_user_of : Subject → Principal → Bool
+is_user_of subject name = same_text subject.realm (user_asked name).1 && same_text subject.name (user_asked name).0
+
 -- ---- the rules
 
 -- the client is the account at a place, and that account has a service principal name
@@ -72,9 +77,10 @@ is_served_client dir client place =
 abbrev pub server_is_the_requestor : DirectoryValue → ℕ → Wish → TicketRec → Bool
 server_is_the_requestor dir at wish rec = holds_of (is_served_client dir rec.client) (wish.server >>= resolve_account dir at)
 
--- S5: the user is of this realm, and the header's user is its client (own choice; other realms' users are not answered yet)
-abbrev pub user_is_of_this_realm : DirectoryValue → ℕ → TicketRec → Principal → Bool
-user_is_of_this_realm dir at rec user = user_is_local dir at user && is_for_its_client rec
+-- S5: where the user is of this realm, the header's user is its client; a user of another realm is the header's user (own choice;
+-- MS-SFU, section 3.2.5.1)
+abbrev pub user_fits_header : DirectoryValue → ℕ → TicketRec → Principal → Bool
+user_fits_header dir at rec user = if user_is_local dir at user then is_for_its_client rec else is_user_of rec.subject user
 
 -- S6: a user of this realm is an account of it (MS-SFU, section 3.2.5.1)
 abbrev pub user_is_known : DirectoryValue → ℕ → Principal → Bool
@@ -88,7 +94,7 @@ user_is_enabled dir at user = not (user_is_local dir at user) || holds_of is_ena
 abbrev pub self_rules : DirectoryValue → ℕ → Moment → Wish → TicketRec → List (Rule × Bool)
 self_rules dir at now wish rec =
     (S4, server_is_the_requestor dir at wish rec)
-    ∷ (S5, holds_of (user_is_of_this_realm dir at rec) wish.user)
+    ∷ (S5, holds_of (user_fits_header dir at rec) wish.user)
     ∷ (S6, holds_of (user_is_known dir at) wish.user)
     ∷ (S7, holds_of (user_is_enabled dir at) wish.user)
     ∷ (T1, end_is_later now (end_within dir at now wish rec))
@@ -118,8 +124,13 @@ abbrev pub self_flags : DirectoryValue → ℕ → Wish → TicketRec → Aim �
 self_flags dir at wish rec aim =
     bit_if 1 (may_be_forwardable wish rec && holds_of (user_may_be_delegated dir at rec) wish.user && aim_is_trusted dir at aim)
 
+-- the ticket of another realm's user keeps the way of the header, and the realm that issued the header comes behind it; that of a
+-- user of this realm has none
+abbrev pub self_appends : DirectoryValue → ℕ → TicketRec → Wish → Bool
+self_appends dir at rec wish = holds_of (λ user. not (user_is_local dir at user)) wish.user && issuer_is_appended rec
+
 abbrev pub self_terms : DirectoryValue → ℕ → Moment → Wish → TicketRec → Aim → Terms
-self_terms dir at now wish rec aim = terms_with dir at now wish rec aim (self_flags dir at wish rec aim)
+self_terms dir at now wish rec aim = terms_with dir at now wish rec aim (self_flags dir at wish rec aim) (self_appends dir at rec wish)
 
 -- the verdict on a request for S4U2self whose header keeps its rules
 abbrev pub self_decision : DirectoryValue → ℕ → Moment → Wish → TicketRec → Aim → SeenSelf → Decision

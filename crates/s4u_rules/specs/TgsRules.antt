@@ -3,7 +3,7 @@ use Rattle.std.specs.Prelude.{ℕ, ◌+◌, ◌-◌, ◌&&◌, ◌||◌, Bool, t
 use Rattle.std.specs.List.{list_any}
 use Rattle.kdc_prelude.specs.Options.{holds_of}
 use Rattle.kdc_prelude.specs.Steps.{◌>>=◌}
-use Rattle.kdc_prelude.specs.Texts.{same_text}
+use Rattle.kdc_prelude.specs.Texts.{is_one_of, same_text}
 use Rattle.kdc_prelude.specs.Verdicts.{first_failing}
 use Rattle.krb_names.specs.declared.moment.Moment.{Moment}
 use Rattle.krb_names.specs.Etypes.{etype_numbered}
@@ -29,7 +29,7 @@ use Rattle.dir_records.specs.declared.records.RealmRec.{RealmRec}
 use Rattle.dir_records.specs.DirectoryValue.{DirectoryValue}
 use Rattle.dir_core.specs.Lookups.{account_at}
 use Rattle.route_rules.specs.Aims.{resolve}
-use Rattle.route_rules.specs.Cross.{is_reached_subject, is_reached_way}
+use Rattle.route_rules.specs.Cross.{is_reached_subject, is_reached_way, issuing_realm}
 use Rattle.route_rules.specs.Requestor.{requestor_account}
 use Rattle.s4u_rules.specs.Conditions.{is_enabled}
 use Rattle.s4u_rules.specs.Headers.{SeenHeader, Shown, ShownHeader, Wrong}
@@ -90,20 +90,24 @@ requestor_is_enabled dir at rec =
 abbrev pub start_is_now : Moment → Wish → Bool
 start_is_now now wish = starts_now now.secs wish
 
--- G18: forwarded, proxy, cname-in-addl-tkt, enc-tkt-in-skey, renew and validate are not asked for, and not both forms of S4U
--- at once (own choice; S4U2proxy is not answered yet)
+-- G18: forwarded, proxy, enc-tkt-in-skey, renew and validate are not asked for, and not both forms of S4U at once (own choice)
 abbrev pub options_are_plain : Wish → Bool
-options_are_plain wish = are_clear (2 ∷ 4 ∷ 14 ∷ 28 ∷ 30 ∷ 31 ∷ []) wish.options && not wish.both
+options_are_plain wish = are_clear (2 ∷ 4 ∷ 28 ∷ 30 ∷ 31 ∷ []) wish.options && not wish.both
 
 -- what the server is to the realm at an index
 abbrev pub aim_of : DirectoryValue → ℕ → Wish → Option Aim
 aim_of dir at wish = wish.server >>= resolve dir at
 
--- G19: the server is this realm's krbtgt or an account of this realm (own choice; referrals are not answered yet)
-abbrev pub aim_is_local : Aim → Bool
-aim_is_local Krbtgt = true
-aim_is_local (Hop trust) = false
-aim_is_local (Account account) = true
+-- G19: the server is known, and this realm's krbtgt only where the header is no cross-realm ticket (RFC 4120, section 3.3.3; the
+-- krbtgt is an own choice)
+abbrev pub aim_is_allowed : TicketRec → Aim → Bool
+aim_is_allowed rec Krbtgt = is_none (issuing_realm rec.holder)
+aim_is_allowed rec (Hop trust) = true
+aim_is_allowed rec (Account account) = true
+
+-- the same, where the header has a record
+abbrev pub aim_may_be_asked : Option TicketRec → Aim → Bool
+aim_may_be_asked rec aim = holds_of (λ header. aim_is_allowed header aim) rec
 
 -- G20: an account that is aimed at is not disabled (own choice)
 abbrev pub aim_is_enabled : DirectoryValue → ℕ → Aim → Bool
@@ -151,7 +155,7 @@ abbrev pub wish_rules : DirectoryValue → ℕ → Moment → Wish → Option Ti
 wish_rules dir at now wish rec =
     (G17, start_is_now now wish)
     ∷ (G18, options_are_plain wish)
-    ∷ (G19, holds_of aim_is_local (aim_of dir at wish))
+    ∷ (G19, holds_of (aim_may_be_asked rec) (aim_of dir at wish))
     ∷ (G20, holds_of (aim_is_enabled dir at) (aim_of dir at wish))
     ∷ (G21, etype_is_listed wish)
     ∷ (G22, holds_of (header_is_own wish) rec)
@@ -190,19 +194,25 @@ may_be_forwardable wish rec = has_bit 1 wish.options && has_bit 1 rec.flags
 abbrev pub ordinary_flags : Wish → TicketRec → ℕ
 ordinary_flags wish rec = bit_if 1 (may_be_forwardable wish rec) + bit_if 10 (has_bit 10 rec.flags)
 
--- a ticket from now on, with these flags
-abbrev pub terms_with : DirectoryValue → ℕ → Moment → Wish → TicketRec → Aim → ℕ → Terms
-terms_with dir at now wish rec aim flags = record {
+-- the realm that issued a cross-realm ticket comes behind the realms on its way, unless it is the user's or among them (RFC 4120,
+-- section 3.3.3.2)
+abbrev pub issuer_is_appended : TicketRec → Bool
+issuer_is_appended rec =
+    holds_of (λ issuer. not (same_text issuer rec.subject.realm) && not (is_one_of rec.transited issuer)) (issuing_realm rec.holder)
+
+-- a ticket from now on, with these flags; the realm that issued the header is appended to its way or not
+abbrev pub terms_with : DirectoryValue → ℕ → Moment → Wish → TicketRec → Aim → ℕ → Bool → Terms
+terms_with dir at now wish rec aim flags append = record {
   aim = aim;
   flags = flags;
   start = now.secs;
   end = end_within dir at now wish rec;
   session = session_type wish.etypes;
-  append = false;
+  append = append;
 }
 
 abbrev pub ordinary_terms : DirectoryValue → ℕ → Moment → Wish → TicketRec → Aim → Terms
-ordinary_terms dir at now wish rec aim = terms_with dir at now wish rec aim (ordinary_flags wish rec)
+ordinary_terms dir at now wish rec aim = terms_with dir at now wish rec aim (ordinary_flags wish rec) (issuer_is_appended rec)
 
 -- the verdict of T1, and what an ordinary request is granted
 abbrev pub ordinary_decision : DirectoryValue → ℕ → Moment → Wish → TicketRec → Aim → Decision

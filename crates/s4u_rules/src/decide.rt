@@ -4,11 +4,13 @@ ghost use Rattle.std.specs.Prelude.{◌≡◌, ◌<◌, length};
 ghost use Rattle.s4u_rules.specs.Outcomes.{IsVerdict};
 ghost use Rattle.kdc_prelude.specs.Verdicts.{first_failing};
 ghost use Rattle.s4u_rules.specs.HeaderViews.{self_seen};
-ghost use Rattle.s4u_rules.specs.SelfRules.{self_decision, self_flags, self_rules};
+ghost use Rattle.s4u_rules.specs.SelfRules.{self_appends, self_decision, self_flags, self_rules};
 ghost use Rattle.s4u_rules.specs.TgsRules.{end_is_later, end_within, may_be_forwardable, ordinary_decision, ordinary_flags, terms_with};
 
 use crate::header::SelfView;
+use crate::issuer::issuer_is_appended;
 use crate::self_rules::*;
+use crate::self_user::user_is_local;
 use dir_core::Directory;
 use kdc_records::{
     Aim, Decision, Rule, Terms, TicketRec, Wish, bit_if, end_by, has_bit, kdc_option, require,
@@ -39,7 +41,7 @@ fn may_be_forwardable(wish: &Wish, rec: &TicketRec) -> bool
     has_bit(wish.options, kdc_option::FORWARDABLE) && has_bit(rec.flags, ticket_flag::FORWARDABLE)
 }
 
-/// A ticket from now on, with these flags.
+/// A ticket from now on, with these flags; the realm that issued the header is appended to its way or not.
 fn terms_with(
     dir: &Directory,
     at: u32,
@@ -48,9 +50,10 @@ fn terms_with(
     rec: &TicketRec,
     aim: Aim,
     flags: u32,
+    append: bool,
 ) -> Terms
     requires { at < length dir.now.realms }
-    ensures { result ≡ terms_with dir.now at now wish.now rec.now aim flags }
+    ensures { result ≡ terms_with dir.now at now wish.now rec.now aim flags append }
 {
     Terms {
         aim,
@@ -58,7 +61,7 @@ fn terms_with(
         start: KTime::new(now.secs),
         end: end_within(dir, at, now, wish, rec),
         session: session_type(wish.etypes.as_slice()),
-        append: false,
+        append,
     }
 }
 
@@ -96,6 +99,7 @@ pub fn decide_tgs(
             header,
             aim,
             ordinary_flags(wish, header),
+            issuer_is_appended(header),
         ))
     } else {
         Decision::Deny(Rule::T1)
@@ -117,7 +121,7 @@ fn check_self(
     let Some(user) = &wish.user else {
         return Err(Rule::S5);
     };
-    require(Rule::S5, user_is_of_this_realm(dir, at, rec, user))?;
+    require(Rule::S5, user_fits_header(dir, at, rec, user))?;
     require(Rule::S6, user_is_known(dir, at, user))?;
     require(Rule::S7, user_is_enabled(dir, at, user))?;
     require(
@@ -138,6 +142,18 @@ fn self_flags(dir: &Directory, at: u32, wish: &Wish, rec: &TicketRec, aim: Aim) 
     };
     let forwardable = may_be_forwardable(wish, rec) && user_may_be && aim_is_trusted(dir, at, aim);
     bit_if(ticket_flag::FORWARDABLE, forwardable)
+}
+
+/// Whether the realm that issued the header is appended to the way of the ticket of S4U2self: the user is of another realm,
+/// so that the ticket keeps the header's way.
+fn self_appends(dir: &Directory, at: u32, rec: &TicketRec, wish: &Wish) -> bool
+    requires { at < length dir.now.realms }
+    ensures { result ≡ self_appends dir.now at rec.now wish.now }
+{
+    match &wish.user {
+        Some(user) => !user_is_local(dir, at, user) && issuer_is_appended(rec),
+        None => false,
+    }
 }
 
 /// The verdict on a request for S4U2self to the realm at an index: the first of S1 to S7 and T1 that fails, or what the
@@ -168,6 +184,7 @@ pub fn decide_self(
             header,
             aim,
             self_flags(dir, realm, wish, header, aim),
+            self_appends(dir, realm, header, wish),
         )),
     }
 }

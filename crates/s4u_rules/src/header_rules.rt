@@ -7,9 +7,10 @@ ghost use Rattle.kdc_records.specs.declared.rule.Rule.TheVariants.{G15, G16};
 ghost use Rattle.route_rules.specs.Aims.{HasAim};
 ghost use Rattle.route_rules.specs.Cross.{is_reached_subject, is_reached_way};
 ghost use Rattle.s4u_rules.specs.Conditions.{is_enabled};
-ghost use Rattle.s4u_rules.specs.TgsRules.{aim_is_enabled, aim_is_local, aim_of, etype_is_listed, has_sid_of, header_has_begun, header_is_certified, header_is_own, header_lasts, is_for_its_client, is_local, is_self, is_the_subject, options_are_plain, requestor_is_enabled, requestor_is_known, requestor_record, stamp_is_fresh, start_is_now};
+ghost use Rattle.s4u_rules.specs.TgsRules.{aim_is_allowed, aim_is_enabled, aim_of, etype_is_listed, has_sid_of, header_has_begun, header_is_certified, header_is_own, header_lasts, is_for_its_client, is_local, is_self, is_the_subject, options_are_plain, requestor_is_enabled, requestor_is_known, requestor_record, stamp_is_fresh, start_is_now};
 
 use crate::header::ShownView;
+use crate::issuer::issuing_realm;
 use dir_core::{Account, Directory, RealmRec};
 use dir_records::Entry;
 use kdc_records::{
@@ -139,8 +140,7 @@ pub(crate) fn start_is_now(now: Moment, wish: &Wish) -> bool
     starts_now(now.secs, wish)
 }
 
-/// G18: forwarded, proxy, cname-in-addl-tkt, enc-tkt-in-skey, renew and validate are not asked for, and not both forms of
-/// S4U at once.
+/// G18: forwarded, proxy, enc-tkt-in-skey, renew and validate are not asked for, and not both forms of S4U at once.
 pub(crate) fn options_are_plain(wish: &Wish) -> bool
     ensures { result ≡ options_are_plain wish.now }
 {
@@ -148,7 +148,6 @@ pub(crate) fn options_are_plain(wish: &Wish) -> bool
         &[
             kdc_option::FORWARDED,
             kdc_option::PROXY,
-            kdc_option::CNAME_IN_ADDL_TKT,
             kdc_option::ENC_TKT_IN_SKEY,
             kdc_option::RENEW,
             kdc_option::VALIDATE,
@@ -169,11 +168,14 @@ pub(crate) fn aim_of(dir: &Directory, at: u32, wish: &Wish) -> Option<Aim>
     }
 }
 
-/// G19: the server is this realm's krbtgt or an account of this realm.
-pub(crate) fn aim_is_local(aim: Aim) -> bool
-    ensures { result ≡ aim_is_local aim }
+/// G19: the server is this realm's krbtgt only where the header is no cross-realm ticket.
+pub(crate) fn aim_is_allowed(rec: &TicketRec, aim: Aim) -> bool
+    ensures { result ≡ aim_is_allowed rec.now aim }
 {
-    !matches!(aim, Aim::Hop(_))
+    match aim {
+        Aim::Krbtgt => issuing_realm(&rec.holder).is_none(),
+        Aim::Hop(_) | Aim::Account(_) => true,
+    }
 }
 
 /// G20: an account that is aimed at is not disabled.

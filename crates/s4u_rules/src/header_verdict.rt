@@ -53,7 +53,7 @@ fn check_wish(
     let Some(aim) = aim_of(dir, at, wish) else {
         return Err(Rule::G19);
     };
-    require(Rule::G19, aim_is_local(aim))?;
+    require(Rule::G19, aim_is_allowed(rec, aim))?;
     require(Rule::G20, aim_is_enabled(dir, at, aim))?;
     require(Rule::G21, etype_is_listed(wish))?;
     require(Rule::G22, header_is_own(wish, rec))?;

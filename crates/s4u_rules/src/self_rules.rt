@@ -3,13 +3,13 @@ ghost use Rattle.std.specs.Prelude.{◌≡◌, ◌<◌, length};
 ghost use Rattle.std.specs.Option.{option_copied};
 ghost use Rattle.kdc_prelude.specs.Options.{holds_of};
 ghost use Rattle.route_rules.specs.Meanings.{HasAccount};
-ghost use Rattle.s4u_rules.specs.SelfRules.{aim_is_trusted, is_served_client, server_is_the_requestor, user_is_enabled, user_is_known, user_is_of_this_realm, user_may_be_delegated};
+ghost use Rattle.s4u_rules.specs.SelfRules.{aim_is_trusted, is_served_client, is_user_of, server_is_the_requestor, user_fits_header, user_is_enabled, user_is_known, user_may_be_delegated};
 ghost use Rattle.s4u_rules.specs.Conditions.{is_enabled, may_be_delegated};
 
 use crate::header_rules::{is_enabled, is_for_its_client};
-use crate::self_user::{user_is_local, user_record};
+use crate::self_user::{is_user_name, user_is_local, user_realm, user_record};
 use dir_core::{Account, Directory};
-use kdc_records::{Aim, TicketRec, Wish, has_bit, is_user};
+use kdc_records::{Aim, Subject, TicketRec, Wish, has_bit, is_user};
 use krb_names::Principal;
 use route_rules::resolve_account;
 
@@ -49,17 +49,23 @@ pub(crate) fn server_is_the_requestor(
     }
 }
 
-/// S5: the user is of this realm, and the header's user is its client.
-pub(crate) fn user_is_of_this_realm(
-    dir: &Directory,
-    at: u32,
-    rec: &TicketRec,
-    user: &Principal,
-) -> bool
-    requires { at < length dir.now.realms }
-    ensures { result ≡ user_is_of_this_realm dir.now at rec.now user.now }
+/// Whether the user of a ticket is the one that a name asks for.
+fn is_user_of(subject: &Subject, name: &Principal) -> bool
+    ensures { result ≡ is_user_of subject.now name.now }
 {
-    user_is_local(dir, at, user) && is_for_its_client(rec)
+    subject.realm.as_str() == user_realm(name) && is_user_name(subject.name.as_str(), name)
+}
+
+/// S5: where the user is of this realm, the header's user is its client; a user of another realm is the header's user.
+pub(crate) fn user_fits_header(dir: &Directory, at: u32, rec: &TicketRec, user: &Principal) -> bool
+    requires { at < length dir.now.realms }
+    ensures { result ≡ user_fits_header dir.now at rec.now user.now }
+{
+    if user_is_local(dir, at, user) {
+        is_for_its_client(rec)
+    } else {
+        is_user_of(&rec.subject, user)
+    }
 }
 
 /// S6: a user of this realm is an account of it.

@@ -2,9 +2,11 @@
 ghost use Rattle.std.specs.Prelude.{◌≡◌, ◌<◌, ℕ, List, None, length, option_map};
 ghost use Rattle.std.specs.List.{join_with_byte};
 ghost use Rattle.std.specs.Option.{option_copied};
+ghost use Rattle.kdc_prelude.specs.Texts.{same_text};
 ghost use Rattle.dir_core.specs.Lookups.{account_named, only_part};
 ghost use Rattle.s4u_rules.specs.SelfRules.{enterprise_user, user_asked, user_is_local, user_record};
 
+use crate::texts::is_joined;
 use dir_core::{Account, Directory};
 use krb_names::{Principal, Text};
 use route_rules::enterprise_pieces;
@@ -27,6 +29,17 @@ pub fn user_realm(name: &Principal) -> &str
     match enterprise_user(name) {
         Some((_, realm)) => realm,
         None => name.realm.as_str(),
+    }
+}
+
+/// Whether the text is the name of the user that a name asks for, in its realm.
+#[tactic(auto, unfolding(crate::specs::SelfRules::user_asked))]
+pub(crate) fn is_user_name(text: &str, name: &Principal) -> bool
+    ensures { result ≡ same_text text.now (user_asked name.now).0 }
+{
+    match enterprise_user(name) {
+        Some((user, _)) => text == user,
+        None => is_joined(text, name.parts.as_slice()),
     }
 }
 

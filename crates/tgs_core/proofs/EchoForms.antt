@@ -1,5 +1,5 @@
 -- The echo of PA-S4U-X509-USER can be written, and how long it is.
-use Rattle.std.proofs.Common.{◌≡◌, ℕ, ◌+◌, ◌<◌, ◌≤◌, ◌^◌, List, length, pos, refl, length-take, arith}
+use Rattle.std.proofs.Common.{ℕ, ◌+◌, ◌≤◌, List, length, pos, refl, length-take, arith}
 use Rattle.std.specs.Prelude.{FitsSigned}
 use Rattle.std.specs.Int.{w32}
 use Rattle.krb_names.specs.declared.etype.Etype.{Etype}

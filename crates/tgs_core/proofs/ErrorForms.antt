@@ -1,5 +1,5 @@
 -- An error can be written, and how long it is.
-use Rattle.std.proofs.Common.{◌≡◌, ℕ, ◌+◌, ◌<◌, ◌≤◌, Bool, true, false, ◌&&◌, nat_lt, List, [], ◌∷◌, ◌++◌, length, pos, Option, Some, None, refl, sym, ap, length-append, arith}
+use Rattle.std.proofs.Common.{◌≡◌, ℕ, ◌+◌, ◌<◌, ◌≤◌, Bool, true, false, ◌&&◌, nat_lt, List, [], ◌∷◌, length, pos, Option, Some, None, refl, sym, ap, length-append, arith}
 use Rattle.std.specs.Prelude.{FitsSigned, IfSome}
 use Rattle.std.specs.Int.{w32}
 use Rattle.std.specs.List.{AllByRecursion, flat_map, list_all}
@@ -21,7 +21,6 @@ use Rattle.krb_names.specs.declared.principal.Principal.{Principal}
 use Rattle.krb_names.proofs.TimeLaw.{written_again}
 use Rattle.krb_names.specs.Etypes.{etype_number}
 use Rattle.krb_tickets.specs.PrincipalName.{in_realm, name_of, principal_name}
-use Rattle.krb_tickets.specs.Transited.{is_realm}
 use Rattle.ticket_laws.proofs.Fields.{Within, end_within, field_within, optional_within}
 use Rattle.ticket_laws.proofs.Sizes.{element_within}
 use Rattle.ticket_laws.proofs.Texts.{realm_fits, realm_short}

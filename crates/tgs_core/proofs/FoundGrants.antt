@@ -1,6 +1,6 @@
 -- What a request that reads is granted by a directory is a grant.
-use Rattle.std.proofs.Common.{◌≡◌, ℕ, zero, suc, ◌+◌, ◌<◌, ◌≤◌, ◌^◌, Bool, true, false, List, [], ◌∷◌, length, get_or, Option, Some, None, refl, sym, ap, ◌∙◌, subst, arith}
-use Rattle.std.specs.Prelude.{◌==◌, IfSome, if◌then◌else◌, is_some, min, option_and_then, option_map, position, slice_get, unwrap_or}
+use Rattle.std.proofs.Common.{◌≡◌, ℕ, zero, suc, ◌+◌, ◌<◌, ◌≤◌, ◌^◌, Bool, true, false, List, [], ◌∷◌, Option, Some, None, refl, sym, ap, ◌∙◌, subst, arith}
+use Rattle.std.specs.Prelude.{◌==◌, IfSome, if◌then◌else◌, is_some, min, option_and_then, option_map, slice_get, unwrap_or}
 use Rattle.std.specs.List.{AllByRecursion}
 use Rattle.std.proofs.lemmas.List.Quantifiers.{position-Some}
 use Rattle.std.proofs.lemmas.Option.{get_or_from_slice_get}
@@ -26,8 +26,9 @@ use Rattle.kdc_records.specs.Bits.{bit_if}
 use Rattle.kdc_records.specs.Wishes.{end_by}
 use Rattle.dir_records.specs.declared.records.Account.{Account as AccountRec}
 use Rattle.dir_records.specs.declared.records.RealmRec.{RealmRec}
+use Rattle.dir_records.specs.declared.records.Trust.{Trust}
 use Rattle.dir_records.specs.DirectoryValue.{DirectoryValue}
-use Rattle.dir_records.specs.IsDirectory.{IsAccount, IsAccountInRange, IsDirectory, IsRealm, IsRealmInRange}
+use Rattle.dir_records.specs.IsDirectory.{IsAccount, IsAccountInRange, IsDirectory, IsRealm, IsRealmInRange, IsTrust, IsTrustInRange}
 use Rattle.dir_core.specs.Lookups.{account_at, realm_named}
 use Rattle.as_core.specs.AsRequests.{as_ask, as_wish}
 use Rattle.as_core.specs.AsRules.{as_terms, longest_life}
@@ -38,9 +39,10 @@ use Rattle.ticket_codec.specs.declared.holding.Holding.{Holding}
 use Rattle.ticket_codec.specs.Holdings.{aim_holding}
 use Rattle.ticket_codec.specs.Made.{IsTicketName}
 use Rattle.tgs_requests.specs.Askings.{tgs_wish, wish_of}
-use Rattle.tgs_core.specs.Grants.{ByAccount, ByHeader, ForUser, Grant, Grounds, IsGrant, IsGrounds, account_name, grant_with, principal_of_account, terms_of, ticket_name}
+use Rattle.tgs_core.specs.Grants.{ByAccount, ByEvidence, ByHeader, ForHeadersUser, ForUser, Grant, Grounds, IsGrant, IsGrantable, IsGrounds, account_name, grant_with, hop_name, principal_of_account, terms_of, ticket_name}
 use Rattle.tgs_core.specs.Requests.{Request, request_to}
-use Rattle.tgs_core.proofs.SoundGrants.{account_is, kind_fits, lone_part, realm_is}
+use Rattle.proxy_rules.specs.ProxyRules.{proxy_terms}
+use Rattle.tgs_core.proofs.SoundGrants.{account_is, hop_named, kind_fits, lone_part, realm_is}
 
 -- ---- look-ups
 
@@ -149,10 +151,18 @@ of_account dir i at realm asked (Some account) h is was named =
     let range = at_index IsRealmInRange dir.realms i realm h.in_range.realms is in
     name_by (is_some (enterprise_user asked)) realm.name (principal_of_account realm account) asked (own_name realm account form range (member_in dir i at realm account h is was)) named
 
+of_trust : (dir : DirectoryValue) (i at : ℕ) (realm : RealmRec) (asked : Principal) (found : Option Trust) → IsDirectory dir → slice_get dir.realms i ≡ Some realm
+    → slice_get realm.trusts at ≡ found → IsTicketName realm.name asked → IsTicketName realm.name (unwrap_or (option_map (hop_name realm) found) asked)
+of_trust dir i at realm asked None h is was named = named
+of_trust dir i at realm asked (Some trust) h is was named =
+    let form = at_index IsRealm dir.realms i realm h.consistent.forms.realms is in
+    let range = at_index IsRealmInRange dir.realms i realm h.in_range.realms is in
+    hop_named realm trust form range (at_index IsTrust realm.trusts at trust form.trusts was) (at_index IsTrustInRange realm.trusts at trust range.trusts was)
+
 named_by_aim : (dir : DirectoryValue) (i : ℕ) (realm : RealmRec) (asked : Principal) (aim : Aim) → IsDirectory dir → slice_get dir.realms i ≡ Some realm → IsTicketName realm.name asked
     → IsTicketName realm.name (ticket_name realm asked aim)
 named_by_aim dir i realm asked Krbtgt h is named = named
-named_by_aim dir i realm asked (Hop trust) h is named = named
+named_by_aim dir i realm asked (Hop trust) h is named = of_trust dir i trust realm asked (slice_get realm.trusts trust) h is refl named
 named_by_aim dir i realm asked (Account at) h is named = of_account dir i at realm asked (slice_get realm.accounts at) h is refl named
 
 -- ---- terms
@@ -202,9 +212,9 @@ one_flag_small true = omega arith
 one_flag_small false = omega arith
 
 -- terms of a TGS-REQ, with flags that are small
-tgs_terms_are : (dir : DirectoryValue) (i : ℕ) (realm : RealmRec) (now : Moment) (request : Request) (rec : TicketRec) (aim : Aim) (flags : ℕ) → slice_get dir.realms i ≡ Some realm → IsRealm realm
-    → flags < 2 ^ 32 → AreTerms (tgs.terms_with dir i now request.wish rec aim flags)
-tgs_terms_are dir i realm now request rec aim flags at h small =
+tgs_terms_are : (dir : DirectoryValue) (i : ℕ) (realm : RealmRec) (now : Moment) (request : Request) (rec : TicketRec) (aim : Aim) (flags : ℕ) (append : Bool)
+    → slice_get dir.realms i ≡ Some realm → IsRealm realm → flags < 2 ^ 32 → AreTerms (tgs.terms_with dir i now request.wish rec aim flags append)
+tgs_terms_are dir i realm now request rec aim flags append at h small =
     let early = now.in_range in
     let life = life_few dir i realm at h in
     let end = end_early request.wish.till (min (now.secs + tgs.longest_life dir i) rec.end) in
@@ -214,13 +224,28 @@ ordinary_by_aim : (dir : DirectoryValue) (now : Moment) (request : Request) (rec
     → option_map (ordinary_terms dir request.realm now request.wish rec) (aim_of dir request.realm request.wish) ≡ Some terms → AreTerms terms
 ordinary_by_aim dir now request rec realm terms at h e =
     let made = mapped_of (aim_of dir request.realm request.wish) (ordinary_terms dir request.realm now request.wish rec) terms e in
-    subst AreTerms made.is (tgs_terms_are dir request.realm realm now request rec made.value _ at h (two_flags_small _ _))
+    subst AreTerms made.is (tgs_terms_are dir request.realm realm now request rec made.value _ _ at h (two_flags_small _ _))
 
 self_by_aim : (dir : DirectoryValue) (now : Moment) (request : Request) (rec : TicketRec) (realm : RealmRec) (terms : Terms) → slice_get dir.realms request.realm ≡ Some realm → IsRealm realm
     → option_map (self_terms dir request.realm now request.wish rec) (aim_of dir request.realm request.wish) ≡ Some terms → AreTerms terms
 self_by_aim dir now request rec realm terms at h e =
     let made = mapped_of (aim_of dir request.realm request.wish) (self_terms dir request.realm now request.wish rec) terms e in
-    subst AreTerms made.is (tgs_terms_are dir request.realm realm now request rec made.value _ at h (one_flag_small _))
+    subst AreTerms made.is (tgs_terms_are dir request.realm realm now request rec made.value _ _ at h (one_flag_small _))
+
+-- those of S4U2proxy
+proxy_terms_are : (dir : DirectoryValue) (i : ℕ) (realm : RealmRec) (now : Moment) (request : Request) (header evidence : TicketRec) (aim : Aim) → slice_get dir.realms i ≡ Some realm → IsRealm realm
+    → AreTerms (proxy_terms dir i now request.wish header evidence aim)
+proxy_terms_are dir i realm now request header evidence aim at h =
+    let early = now.in_range in
+    let life = life_few dir i realm at h in
+    let end = end_early request.wish.till (min (now.secs + tgs.longest_life dir i) (min header.end evidence.end)) in
+    record { flags = one_flag_small _; start = omega (arith, early); end = omega (arith, early, life, end) }
+
+proxy_by_aim : (dir : DirectoryValue) (now : Moment) (request : Request) (header evidence : TicketRec) (realm : RealmRec) (terms : Terms) → slice_get dir.realms request.realm ≡ Some realm
+    → IsRealm realm → option_map (proxy_terms dir request.realm now request.wish header evidence) (aim_of dir request.realm request.wish) ≡ Some terms → AreTerms terms
+proxy_by_aim dir now request header evidence realm terms at h e =
+    let made = mapped_of (aim_of dir request.realm request.wish) (proxy_terms dir request.realm now request.wish header evidence) terms e in
+    subst AreTerms made.is (proxy_terms_are dir request.realm realm now request header evidence made.value at h)
 
 pub terms_are : (dir : DirectoryValue) (now : Moment) (request : Request) (realm : RealmRec) (grounds : Grounds) (terms : Terms) → slice_get dir.realms request.realm ≡ Some realm → IsRealm realm
     → terms_of dir now request grounds ≡ Some terms → AreTerms terms
@@ -228,6 +253,8 @@ terms_are dir now request realm (ByAccount account) terms at h e =
     subst AreTerms (some_is _ terms e) (as_terms_are dir request.realm realm now request.message at h)
 terms_are dir now request realm (ByHeader shown) terms at h e = ordinary_by_aim dir now request shown.rec realm terms at h e
 terms_are dir now request realm (ForUser shown account asked) terms at h e = self_by_aim dir now request shown.rec realm terms at h e
+terms_are dir now request realm (ForHeadersUser shown asked) terms at h e = self_by_aim dir now request shown.rec realm terms at h e
+terms_are dir now request realm (ByEvidence shown evidence) terms at h e = proxy_by_aim dir now request shown.rec evidence.rec realm terms at h e
 
 -- ---- the grant
 
@@ -239,17 +266,17 @@ pub record IsAsked (dir : DirectoryValue) (req : KdcReq) (i : ℕ) (realm : Real
 
 abbrev pub grant_made : RealmRec → KdcReq → ℕ → Principal → Terms → Holding → Grounds → Grant
 grant_made realm req i server terms held grounds =
-    record { realm = realm; request = request_to req i; server = ticket_name realm server terms.aim; terms = terms; holding = held; grounds = grounds }
+    record { realm = realm; request = request_to req i; asked = server; server = ticket_name realm server terms.aim; terms = terms; holding = held; grounds = grounds }
 
 pub body_fits : (req : KdcReq) → kdc_req.Fits req → IsBytes req.body_bytes → kdc_req_body.Fits req.req_body
 unfolding kdc_req
 body_fits req fits bytes = kdc_req_body_lawful.fits req.body_bytes req.req_body bytes fits.1.1.1.1.0
 
 pub asked_is_grant : (dir : DirectoryValue) (req : KdcReq) (i : ℕ) (realm : RealmRec) (server : Principal) (terms : Terms) (held : Holding) (grounds : Grounds)
-    → IsDirectory dir → kdc_req.Fits req → IsBytes req.body_bytes → IsAsked dir req i realm server → AreTerms terms → IsGrounds grounds
+    → IsDirectory dir → kdc_req.Fits req → IsBytes req.body_bytes → IsAsked dir req i realm server → AreTerms terms → IsGrounds grounds → IsGrantable realm server terms grounds
     → IsGrant (grant_made realm req i server terms held grounds)
 unfolding kdc_req_body
-asked_is_grant dir req i realm server terms held grounds h fits bytes asked are stands =
+asked_is_grant dir req i realm server terms held grounds h fits bytes asked are stands grantable =
     let form = at_index IsRealm dir.realms i realm h.consistent.forms.realms asked.at in
     let range = at_index IsRealmInRange dir.realms i realm h.in_range.realms asked.at in
     let body = body_fits req fits bytes in
@@ -259,6 +286,7 @@ asked_is_grant dir req i realm server terms held grounds h fits bytes asked are 
       realm = form;
       range = range;
       grounds = stands;
+      grantable = grantable;
       server = named_by_aim dir i realm server terms.aim h asked.at name;
       nonce = rw (wish_nonce req) body.1.1.1.1.1.1.1.1.0;
       flags = are.flags;
@@ -270,7 +298,7 @@ asked_is_grant dir req i realm server terms held grounds h fits bytes asked are 
 abbrev granted_by : Request → Grounds → Terms → Option RealmRec → Option Principal → Option Holding → Option Grant
 granted_by request grounds terms realm server holding =
     realm >>= λ realm. server >>= λ server. holding >>= λ holding.
-    Some (record { realm = realm; request = request; server = ticket_name realm server terms.aim; terms = terms; holding = holding; grounds = grounds })
+    Some (record { realm = realm; request = request; asked = server; server = ticket_name realm server terms.aim; terms = terms; holding = holding; grounds = grounds })
 
 looked_up : (dir : DirectoryValue) (req : KdcReq) (i : ℕ) (grounds : Grounds) (terms : Terms)
     → grant_with dir (request_to req i) grounds terms ≡ granted_by (request_to req i) grounds terms (slice_get dir.realms i) req.req_body.sname (aim_holding dir i terms.aim)
@@ -312,10 +340,12 @@ grant_found dir req i realm server terms held grounds asked holds =
 
 -- what is granted on grounds that are known
 pub granted_with : (dir : DirectoryValue) (req : KdcReq) (i : ℕ) (grounds : Grounds) (terms : Terms) (grant : Grant) → IsDirectory dir → kdc_req.Fits req → IsBytes req.body_bytes
-    → realm_named dir req.req_body.realm ≡ Some i → AreTerms terms → IsGrounds grounds → grant_with dir (request_to req i) grounds terms ≡ Some grant → IsGrant grant
-granted_with dir req i grounds terms grant h fits bytes known are stands e =
+    → realm_named dir req.req_body.realm ≡ Some i → AreTerms terms → IsGrounds grounds
+    → ((realm : RealmRec) (server : Principal) → slice_get dir.realms i ≡ Some realm → req.req_body.sname ≡ Some server → IsGrantable realm server terms grounds)
+    → grant_with dir (request_to req i) grounds terms ≡ Some grant → IsGrant grant
+granted_with dir req i grounds terms grant h fits bytes known are stands grantable e =
     let realm = step_of (slice_get dir.realms i) _ grant e in
     let server = step_of (wish_of req).server _ grant realm.is in
     let holding = step_of (aim_holding dir i terms.aim) _ grant server.is in
     let asked : IsAsked dir req i realm.value server.value = record { known = known; at = realm.was; named = sym (wish_server req) ∙ server.was } in
-    subst IsGrant (some_is _ _ holding.is) (asked_is_grant dir req i realm.value server.value terms holding.value grounds h fits bytes asked are stands)
+    subst IsGrant (some_is _ _ holding.is) (asked_is_grant dir req i realm.value server.value terms holding.value grounds h fits bytes asked are stands (grantable realm.value server.value realm.was asked.named))

@@ -1,9 +1,9 @@
 -- Where no rule denies a request, something is granted to it.
 use Rattle.std.proofs.Common.{◌≡◌, ℕ, Bool, true, false, List, [], ◌∷◌, Option, Some, None, refl, sym, ap, ◌∙◌}
-use Rattle.std.specs.Prelude.{◌||◌, is_some, not, option_and_then, option_map, position, slice_get}
+use Rattle.std.specs.List.{join_with_byte}
+use Rattle.std.specs.Prelude.{ℤ, ◌==◌, codes, is_some, option_and_then, option_map, position, slice_get, if◌then◌else◌}
 use Rattle.std.proofs.lemmas.List.Quantifiers.{position-Some}
 use Rattle.std.proofs.lemmas.Option.{slice_get-get_or}
-use Rattle.kdc_prelude.proofs.Bools.{both}
 use Rattle.kdc_prelude.specs.Options.{holds_of}
 use Rattle.kdc_prelude.specs.Steps.{◌>>=◌}
 use Rattle.kdc_prelude.specs.Texts.{same_text}
@@ -21,25 +21,31 @@ use Rattle.kdc_records.specs.Decisions.{decided, is_grant}
 use Rattle.dir_records.specs.declared.records.Account.{Account as AccountRec}
 use Rattle.dir_records.specs.declared.records.RealmRec.{RealmRec}
 use Rattle.dir_records.specs.DirectoryValue.{DirectoryValue}
-use Rattle.dir_core.specs.Lookups.{account_at, realm_named}
-use Rattle.route_rules.specs.Aims.{resolve}
+use Rattle.dir_core.specs.Lookups.{account_at, leads_to, next_hop, realm_named, spn_place}
+use Rattle.route_rules.specs.Aims.{aim_at, hop_to, resolve}
+use Rattle.route_rules.specs.Meanings.{account_meant, enterprise_pieces, meaning_of_parts, place_of_part, service_meant}
 use Rattle.as_core.specs.AsRequests.{as_ask}
 use Rattle.as_core.specs.AsRules.{AsGrants, as_terms, client_account, server_aim, server_is_krbtgt}
 use Rattle.as_core.proofs.Grants.{granted}
 use Rattle.s4u_rules.specs.Conditions.{is_enabled}
 use Rattle.s4u_rules.specs.SelfRules.{self_terms, user_is_local, user_record}
-use Rattle.s4u_rules.specs.TgsRules.{aim_is_enabled, aim_is_local, aim_of, is_for_its_client, ordinary_terms}
+use Rattle.s4u_rules.specs.TgsRules.{aim_is_enabled, aim_of, ordinary_terms}
 use Rattle.ticket_codec.specs.declared.holding.Holding.{Holding}
-use Rattle.ticket_codec.specs.Holdings.{account_holding, aim_holding, aim_holding_in, krbtgt_holding}
+use Rattle.proxy_rules.specs.ProxyRules.{proxy_terms}
+use Rattle.proxy_requests.specs.declared.evidence.Evidence.{Evidence}
+use Rattle.s4u_padata.specs.declared.x509_user.X509User.{X509User}
+use Rattle.ticket_codec.specs.Holdings.{account_holding, aim_holding, aim_holding_in, hop_holding, krbtgt_holding}
 use Rattle.tgs_requests.specs.declared.header.Header.{Header}
 use Rattle.tgs_requests.specs.Askings.{branch_of}
 use Rattle.tgs_requests.specs.Headers.{record_in}
-use Rattle.tgs_core.specs.Grants.{ByAccount, ByHeader, ForUser, Grounds, Presented, grant_in, grant_of, grant_with, grounds_of, presented_in, presented_with, terms_of, ticket_name, user_account, x509_asked}
+use Rattle.tgs_core.specs.Grants.{ByAccount, ByEvidence, ByHeader, ForHeadersUser, ForUser, Grounds, Presented, ShownTicket, grant_in, grant_of, grant_with, grounds_of, grounds_on, presented_in, presented_with, self_grounds, terms_of, ticket_name, ticket_shown_by, user_grounds, x509_asked}
 use Rattle.tgs_core.specs.Requests.{Request, message_in, realm_is_known, request_in, request_of, request_to}
-use Rattle.tgs_core.specs.Verdicts.{HeaderKept, SelfTicketGrants, rules_of_branch, verdict}
-use Rattle.tgs_core.proofs.FoundGrants.{mapped_of, step_of, wish_server}
+use Rattle.tgs_core.specs.Verdicts.{HeaderKept, ProxyTicketGrants, SelfTicketGrants, rules_of_branch, verdict}
+use Rattle.tgs_core.proofs.FoundGrants.{mapped_of, some_is, step_of, wish_server}
+use Rattle.tgs_core.proofs.JudgedRequests.{self_has_grounds}
 use Rattle.tgs_core.proofs.Openings.{branch_known, opening_known}
-use Rattle.tgs_core.proofs.TgsVerdicts.{IsThere, ordinary_kept, proxy_denied, self_kept, tgs_known, there, user_there}
+use Rattle.tgs_core.proofs.ShownHeaders.{then_of}
+use Rattle.tgs_core.proofs.TgsVerdicts.{IsThere, ordinary_kept, proxy_kept, self_kept, there}
 
 -- ---- look-ups
 
@@ -74,9 +80,9 @@ given dir now request realm at g =
     ap (λ (found : Option Grounds). found >>= λ (grounds : Grounds). terms_of dir now request grounds >>= λ (terms : Terms). grant_with dir request grounds terms) g.grounds_are
     ∙ ap (λ (found : Option Terms). found >>= λ (terms : Terms). grant_with dir request g.grounds terms) g.terms_are in
     let made : grant_with dir request g.grounds g.terms
-    ≡ Some (record { realm = realm; request = request; server = ticket_name realm g.server g.terms.aim; terms = g.terms; holding = g.held.value; grounds = g.grounds }) =
+    ≡ Some (record { realm = realm; request = request; asked = g.server; server = ticket_name realm g.server g.terms.aim; terms = g.terms; holding = g.held.value; grounds = g.grounds }) =
     λ k. at k >>= λ (realm : RealmRec). g.named k >>= λ (server : Principal). g.held.is k >>= λ (holding : Holding).
-    Some (record { realm = realm; request = request; server = ticket_name realm server g.terms.aim; terms = g.terms; holding = holding; grounds = g.grounds }) in
+    Some (record { realm = realm; request = request; asked = server; server = ticket_name realm server g.terms.aim; terms = g.terms; holding = holding; grounds = g.grounds }) in
     ap is_some (whole ∙ made)
 
 -- ---- an AS-REQ
@@ -121,11 +127,71 @@ account_held dir at account realm e found =
       is = ap (λ (found : Option RealmRec). found >>= λ (realm : RealmRec). aim_holding_in realm (Account account)) e ∙ ap (option_map (account_holding realm)) is;
     }
 
-local_held : (dir : DirectoryValue) (at : ℕ) (aim : Aim) (realm : RealmRec) → slice_get dir.realms at ≡ Some realm → aim_is_local aim ≡ true → aim_is_enabled dir at aim ≡ true
+-- a trust is aimed at
+abbrev is_hop : Aim → Bool
+is_hop Krbtgt = false
+is_hop (Hop trust) = true
+is_hop (Account account) = false
+
+true_is_not_false : true ≡ false → ⊥
+true_is_not_false e = cc
+
+-- a trust that leads to a realm is there
+hop_there : (dir : DirectoryValue) (at other trust : ℕ) (realm : RealmRec) → slice_get dir.realms at ≡ Some realm → hop_to dir at other ≡ Some (Hop trust) → IsThere (slice_get realm.trusts trust)
+hop_there dir at other trust realm e h =
+    let hop = mapped_of (next_hop dir at other) Hop (Hop trust) h in
+    let same : hop.value ≡ trust = let made : Hop hop.value ≡ Hop trust = hop.is in cc in
+    let to = then_of (slice_get dir.realms other) (λ (other : RealmRec). option_and_then (λ (realm : RealmRec). position (leads_to other.name) realm.trusts) (slice_get dir.realms at)) hop.value hop.was in
+    let from : position (leads_to to.value.name) realm.trusts ≡ Some trust =
+    sym (ap (option_and_then (λ (realm : RealmRec). position (leads_to to.value.name) realm.trusts)) e) ∙ to.is ∙ ap (λ (t : ℕ). Some t) same in
+    at_position (leads_to to.value.name) realm.trusts trust from
+
+hop_by : (b : Bool) (dir : DirectoryValue) (at other trust : ℕ) (own : Aim) (realm : RealmRec) → slice_get dir.realms at ≡ Some realm → is_hop own ≡ false
+    → (if b then Some own else hop_to dir at other) ≡ Some (Hop trust) → IsThere (slice_get realm.trusts trust)
+hop_by true dir at other trust own realm e apart h = let same : own ≡ Hop trust = some_is own (Hop trust) h in absurd (true_is_not_false (sym (ap is_hop same) ∙ apart))
+hop_by false dir at other trust own realm e apart h = hop_there dir at other trust realm e h
+
+hop_of_service : (dir : DirectoryValue) (at trust : ℕ) (realm : RealmRec) (found : Option ℕ) → slice_get dir.realms at ≡ Some realm → aim_at dir at (service_meant found) ≡ Some (Hop trust)
+    → IsThere (slice_get realm.trusts trust)
+hop_of_service dir at trust realm None e h = absurd cc
+hop_of_service dir at trust realm (Some other) e h = hop_by (other == at) dir at other trust Krbtgt realm e refl h
+
+hop_of_account : (dir : DirectoryValue) (at trust : ℕ) (realm : RealmRec) (found : Option (ℕ × ℕ)) → slice_get dir.realms at ≡ Some realm → aim_at dir at (account_meant found) ≡ Some (Hop trust)
+    → IsThere (slice_get realm.trusts trust)
+hop_of_account dir at trust realm None e h = absurd cc
+hop_of_account dir at trust realm (Some place) e h = hop_by (place.0 == at) dir at place.0 trust (Account place.1) realm e refl h
+
+hop_of_two : (b : Bool) (dir : DirectoryValue) (at trust : ℕ) (realm : RealmRec) (service : Option ℕ) (account : Option (ℕ × ℕ)) → slice_get dir.realms at ≡ Some realm
+    → aim_at dir at (if b then service_meant service else account_meant account) ≡ Some (Hop trust) → IsThere (slice_get realm.trusts trust)
+hop_of_two true dir at trust realm service account e h = hop_of_service dir at trust realm service e h
+hop_of_two false dir at trust realm service account e h = hop_of_account dir at trust realm account e h
+
+hop_of_parts : (dir : DirectoryValue) (at trust : ℕ) (realm : RealmRec) (kind : ℤ) (parts : List (List ℕ)) → slice_get dir.realms at ≡ Some realm
+    → aim_at dir at (meaning_of_parts dir at kind parts) ≡ Some (Hop trust) → IsThere (slice_get realm.trusts trust)
+hop_of_parts dir at trust realm kind [] e h = absurd cc
+hop_of_parts dir at trust realm kind (part ∷ []) e h = hop_of_account dir at trust realm (place_of_part dir at part (enterprise_pieces kind part)) e h
+hop_of_parts dir at trust realm kind (first ∷ second ∷ []) e h =
+    hop_of_two (same_text first (codes "krbtgt")) dir at trust realm (realm_named dir second) (spn_place dir (join_with_byte 47 (first ∷ second ∷ []))) e h
+hop_of_parts dir at trust realm kind (first ∷ second ∷ third ∷ []) e h = hop_of_account dir at trust realm (spn_place dir (join_with_byte 47 (first ∷ second ∷ third ∷ []))) e h
+hop_of_parts dir at trust realm kind (first ∷ second ∷ third ∷ fourth ∷ more) e h = absurd cc
+
+hop_resolved : (dir : DirectoryValue) (at trust : ℕ) (realm : RealmRec) (name : Principal) → slice_get dir.realms at ≡ Some realm → resolve dir at name ≡ Some (Hop trust)
+    → IsThere (slice_get realm.trusts trust)
+unfolding resolve
+hop_resolved dir at trust realm name e h = hop_of_parts dir at trust realm name.kind name.parts e h
+
+hop_held : (dir : DirectoryValue) (at trust : ℕ) (realm : RealmRec) → slice_get dir.realms at ≡ Some realm → IsThere (slice_get realm.trusts trust) → IsThere (aim_holding dir at (Hop trust))
+unfolding aim_holding
+hop_held dir at trust realm e found = record {
+  value = hop_holding realm found.value;
+  is = ap (λ (found : Option RealmRec). found >>= λ (realm : RealmRec). aim_holding_in realm (Hop trust)) e ∙ ap (option_map (hop_holding realm)) found.is;
+}
+
+held_by : (dir : DirectoryValue) (at : ℕ) (aim : Aim) (realm : RealmRec) (name : Principal) → slice_get dir.realms at ≡ Some realm → resolve dir at name ≡ Some aim → aim_is_enabled dir at aim ≡ true
     → IsThere (aim_holding dir at aim)
-local_held dir at Krbtgt realm e local enabled = krbtgt_held dir at realm e
-local_held dir at (Hop trust) realm e local enabled = absurd cc
-local_held dir at (Account account) realm e local enabled =
+held_by dir at Krbtgt realm name e is enabled = krbtgt_held dir at realm e
+held_by dir at (Hop trust) realm name e is enabled = hop_held dir at trust realm e (hop_resolved dir at trust realm name e is)
+held_by dir at (Account account) realm name e is enabled =
     let found = passing is_enabled (account_at dir at account) enabled in
     account_held dir at account realm e (record { value = found.value; is = found.is })
 
@@ -141,11 +207,11 @@ aimed : (dir : DirectoryValue) (now : Moment) (request : Request) (realm : Realm
 aimed dir now request realm at kept =
     let g = kept.granted in
     let server = step_of request.wish.server (resolve dir request.realm) g.aim g.aimed in
-    record { aim = g.aim; server = server.value; is = g.aimed; named = server.was; held = local_held dir request.realm g.aim realm at g.here g.aim_enabled }
+    record { aim = g.aim; server = server.value; is = g.aimed; named = server.was; held = held_by dir request.realm g.aim realm server.value at server.is g.aim_enabled }
 
 -- ---- an ordinary TGS-REQ
 
-presented_is : (dir : DirectoryValue) (now : Moment) (request : Request) (kept : HeaderKept dir now request) → presented_in dir request ≡ Some (presented_with kept.header kept.rec)
+pub presented_is : (dir : DirectoryValue) (now : Moment) (request : Request) (kept : HeaderKept dir now request) → presented_in dir request ≡ Some (presented_with kept.header kept.rec)
 presented_is dir now request kept =
     ap (λ (found : Option Header). found >>= λ (header : Header). option_map (presented_with header) (record_in header)) kept.opened ∙ ap (option_map (presented_with kept.header)) kept.shown
 
@@ -159,12 +225,21 @@ ordinary_given dir now message i realm at branch kept =
       grounds = ByHeader (presented_with kept.header kept.rec);
       terms = ordinary_terms dir i now request.wish kept.rec aim.aim;
       named = aim.named;
-      grounds_are = ap (grounds_of dir request) branch ∙ ap (option_map ByHeader) (presented_is dir now request kept);
+      grounds_are = ap (grounds_of dir request) branch ∙ ap (λ (found : Option Presented). found >>= λ (shown : Presented). grounds_on dir request shown Ordinary) (presented_is dir now request kept);
       terms_are = ap (option_map (ordinary_terms dir i now request.wish kept.rec)) aim.is;
       held = aim.held;
     }
 
 -- ---- S4U2self
+
+-- the terms of S4U2self, by its grounds
+self_terms_by : (dir : DirectoryValue) (now : Moment) (request : Request) (shown : Presented) (asked : Option X509User) (local : Bool) (account : Option AccountRec) (grounds : Grounds)
+    → user_grounds shown asked local account ≡ Some grounds
+    → terms_of dir now request grounds ≡ option_map (self_terms dir request.realm now request.wish shown.rec) (aim_of dir request.realm request.wish)
+self_terms_by dir now request shown asked false account grounds e = ap (terms_of dir now request) (sym (some_is (ForHeadersUser shown asked) grounds e))
+self_terms_by dir now request shown asked true account grounds e =
+    let found = mapped_of account (λ (found : AccountRec). ForUser shown found asked) grounds e in
+    ap (terms_of dir now request) (sym found.is)
 
 self_given : (dir : DirectoryValue) (now : Moment) (message : KdcReq) (i : ℕ) (realm : RealmRec) → slice_get dir.realms i ≡ Some realm → branch_of message ≡ SelfTicket
     → SelfTicketGrants dir now (request_to message i) → Given dir now (request_to message i)
@@ -172,19 +247,41 @@ self_given dir now message i realm at branch g =
     let request : Request = request_to message i in
     let kept = g.kept in
     let aim = aimed dir now request realm at kept in
-    let user = user_there dir i now request.wish kept.rec g.granted in
     let shown : Presented = presented_with kept.header kept.rec in
     let asked = x509_asked message in
-    let grounds : grounds_of dir request SelfTicket ≡ Some (ForUser shown user.value asked) =
-    ap (λ (found : Option Presented). found >>= λ (shown : Presented). user_account dir request.realm request.wish >>= λ (account : AccountRec). Some (ForUser shown account asked)) (presented_is dir now request kept)
-    ∙ ap (λ (found : Option AccountRec). found >>= λ (account : AccountRec). Some (ForUser shown account asked)) user.is in
+    let stands = self_has_grounds dir i now request.wish kept.rec shown asked g.granted in
+    let user = step_of request.wish.user (self_grounds dir i shown asked) stands.value stands.is in
+    let terms = self_terms_by dir now request shown asked (user_is_local dir i user.value) (user_record dir i user.value) stands.value user.is in
     record {
       server = aim.server;
-      grounds = ForUser shown user.value asked;
+      grounds = stands.value;
       terms = self_terms dir i now request.wish kept.rec aim.aim;
       named = aim.named;
-      grounds_are = ap (grounds_of dir request) branch ∙ grounds;
-      terms_are = ap (option_map (self_terms dir i now request.wish kept.rec)) aim.is;
+      grounds_are =
+          ap (grounds_of dir request) branch ∙ ap (λ (found : Option Presented). found >>= λ (shown : Presented). grounds_on dir request shown SelfTicket) (presented_is dir now request kept) ∙ stands.is;
+      terms_are = terms ∙ ap (option_map (self_terms dir i now request.wish kept.rec)) aim.is;
+      held = aim.held;
+    }
+
+-- ---- S4U2proxy
+
+proxy_given : (dir : DirectoryValue) (now : Moment) (message : KdcReq) (i : ℕ) (realm : RealmRec) → slice_get dir.realms i ≡ Some realm → branch_of message ≡ Proxy
+    → ProxyTicketGrants dir now (request_to message i) → Given dir now (request_to message i)
+proxy_given dir now message i realm at branch g =
+    let request : Request = request_to message i in
+    let kept = g.kept in
+    let aim = aimed dir now request realm at kept in
+    let shown : Presented = presented_with kept.header kept.rec in
+    let evidence : ShownTicket = ticket_shown_by g.evidence in
+    record {
+      server = aim.server;
+      grounds = ByEvidence shown evidence;
+      terms = proxy_terms dir i now request.wish kept.rec evidence.rec aim.aim;
+      named = aim.named;
+      grounds_are =
+          ap (grounds_of dir request) branch ∙ ap (λ (found : Option Presented). found >>= λ (shown : Presented). grounds_on dir request shown Proxy) (presented_is dir now request kept)
+          ∙ ap (λ (found : Option Evidence). option_map (ByEvidence shown) (option_map ticket_shown_by found)) g.found;
+      terms_are = ap (option_map (proxy_terms dir i now request.wish kept.rec evidence.rec)) aim.is;
       held = aim.held;
     }
 
@@ -197,7 +294,7 @@ by_branch dir now message i realm Initial at e h =
     initial_given dir now message i realm at e (granted ask (ap (λ (f : Option Rule). is_grant (decided f (as_terms ask))) h))
 by_branch dir now message i realm Ordinary at e h = ordinary_given dir now message i realm at e (ordinary_kept dir now (request_to message i) h).kept
 by_branch dir now message i realm SelfTicket at e h = self_given dir now message i realm at e (self_kept dir now (request_to message i) h)
-by_branch dir now message i realm Proxy at e h = absurd (proxy_denied message e (tgs_known dir now (request_to message i) Proxy h).kept.granted.plain)
+by_branch dir now message i realm Proxy at e h = proxy_given dir now message i realm at e (proxy_kept dir now (request_to message i) h)
 
 of_index : (dir : DirectoryValue) (now : Moment) (bytes : List ℕ) (message : KdcReq) (found : Option ℕ) → verdict dir now bytes ≡ None → message_in bytes ≡ Some message
     → realm_named dir message.req_body.realm ≡ found → is_some found ≡ true → is_some (grant_in dir now bytes) ≡ true
@@ -220,16 +317,3 @@ pub grants_are_given : (dir : DirectoryValue) (now : Moment) (bytes : List ℕ) 
 grants_are_given dir now bytes h =
     let g = opening_known dir now bytes h in
     of_message dir now bytes (message_in bytes) h refl g.read g.known
-
--- ---- S4U2proxy
-
-pub proxy_unknown : (dir : DirectoryValue) (now : Moment) (bytes : List ℕ) (request : Request) → verdict dir now bytes ≡ None → request_in dir bytes ≡ Some request
-    → branch_of request.message ≡ Proxy → ⊥
-unfolding request_in
-proxy_unknown dir now bytes request h e asked =
-    let message = step_of (message_in bytes) (request_of dir) request e in
-    let at = mapped_of (realm_named dir message.value.req_body.realm) (request_to message.value) request message.is in
-    let made : Request = request_to message.value at.value in
-    let own : branch_of message.value ≡ Proxy = ap (λ (r : Request). branch_of r.message) at.is ∙ asked in
-    let g = tgs_known dir now made Proxy (branch_known dir now bytes made Proxy h (e ∙ ap Some (sym at.is)) own) in
-    proxy_denied message.value own g.kept.granted.plain

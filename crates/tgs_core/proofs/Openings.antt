@@ -12,7 +12,6 @@ use Rattle.krb_tickets.specs.declared.fault.TicketFault.TheVariants as faults
 use Rattle.krb_tickets.specs.Told.{told}
 use Rattle.krb_messages.specs.declared.kdc_req.KdcReq.{KdcReq}
 use Rattle.krb_messages.specs.KdcReq.{kdc_req}
-use Rattle.kdc_records.specs.declared.decision.Decision.{Decision}
 use Rattle.kdc_records.specs.declared.decision.Decision.TheVariants.{Grant, Deny}
 use Rattle.kdc_records.specs.declared.decision.Terms.{Terms}
 use Rattle.kdc_records.specs.declared.rule.Rule.{Rule}

@@ -45,7 +45,7 @@ abbrev pub AreOfBytes : List PaData → Type 0
 AreOfBytes items = AllByRecursion (λ item. IsBytes item.padata_value) items
 
 -- both parts of bytes are bytes
-halves : {Front Rest : List ℕ → Type 0} (bytes : List ℕ) (d : Are Front Rest bytes) → IsBytes bytes → IsBytes d.front × IsBytes d.rest
+pub halves : {Front Rest : List ℕ → Type 0} (bytes : List ℕ) (d : Are Front Rest bytes) → IsBytes bytes → IsBytes d.front × IsBytes d.rest
 halves bytes d h =
     let all : IsBytes (d.front ++ d.rest) = subst IsBytes d.whole h in
     (IsBytes-front d.front d.rest all, IsBytes-rest d.front d.rest all)
@@ -66,7 +66,7 @@ padata_keep bytes (Some items) h d =
     let element = IsBytes-content 163 bytes d.content h d.outside in
     items_keep d.inside.content items (IsBytes-content 48 d.content d.inside.content element d.inside.outside) d.inside.inside
 
-optional_keeps : {X Y : Type 0} (k : ℕ) (c : Codec X) (more : Fields Y) (P : Option X → Type 0) (Q : Y → Type 0) → ((bytes : List ℕ) (x : Option X) → IsBytes bytes → IsOptional k c bytes x → P x)
+pub optional_keeps : {X Y : Type 0} (k : ℕ) (c : Codec X) (more : Fields Y) (P : Option X → Type 0) (Q : Y → Type 0) → ((bytes : List ℕ) (x : Option X) → IsBytes bytes → IsOptional k c bytes x → P x)
     → Keeps more Q → Keeps (optional k c more) (λ x. P x.0 × Q x.1)
 optional_keeps k c more P Q one rest = record {
   keeps = λ bytes x h d. let parts = halves bytes d h in (one d.front x.0 parts.0 d.first, rest.keeps d.rest x.1 parts.1 d.second);

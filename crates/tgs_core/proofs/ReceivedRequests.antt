@@ -1,28 +1,19 @@
 -- What a message is known to be that was read.
-use Rattle.std.proofs.Common.{◌≡◌, ℕ, ◌+◌, ◌*◌, ◌<◌, ◌≤◌, ◌^◌, Bool, true, false, List, [], ◌∷◌, ◌++◌, length, Option, Some, None, refl, sym, ap, subst, length-append, arith}
+use Rattle.std.proofs.Common.{◌≡◌, ℕ, ◌<◌, ◌≤◌, ◌^◌, Bool, true, false, List, [], ◌∷◌, ◌++◌, length, Option, Some, None, refl, sym, ap, length-append, arith}
 use Rattle.std.specs.Prelude.{IfSome, if◌then◌else◌}
 use Rattle.std.specs.List.{AllByRecursion, flat_map}
 use Rattle.std.proofs.lemmas.Bool.Decides.{nat_tests}
 use Rattle.std.proofs.lemmas.List.Concat.{flat_map-cons}
-use Rattle.der_core.specs.Codec.{Codec, whole}
+use Rattle.der_core.specs.Codec.{whole}
 use Rattle.der_core.specs.Elements.{element}
 use Rattle.der_core.specs.Forms.{int32, number_is, octets}
 use Rattle.der_core.specs.Laws.{IsBytes}
-use Rattle.der_core.specs.Sizes.{size}
 use Rattle.der_forms.specs.Choices.{tag_in}
-use Rattle.der_forms.specs.Fields.{Fields, dropped, end, field, optional, optional_spelling, tag_of}
+use Rattle.der_forms.specs.Fields.{end, field, optional_spelling, tag_of}
 use Rattle.der_forms.specs.Kept.{kept}
 use Rattle.der_forms.specs.Lists.{sequence_of}
-use Rattle.der_forms.specs.Names.{realm as realm_name}
-use Rattle.der_forms.specs.Times.{kerberos_time}
-use Rattle.der_forms.specs.Values.{flags, nonce as nonce_number}
 use Rattle.krb_names.specs.declared.principal.Principal.{Principal}
-use Rattle.krb_tickets.specs.declared.ticket.Ticket.{Ticket}
-use Rattle.krb_tickets.specs.EncryptedData.{encrypted_data}
-use Rattle.krb_tickets.specs.HostAddress.{host_address}
 use Rattle.krb_tickets.specs.PrincipalName.{in_realm, name_of, named, principal_name, unnamed}
-use Rattle.krb_tickets.specs.Ticket.{ticket}
-use Rattle.krb_tickets.specs.Ticket as ticket_form
 use Rattle.krb_tickets.specs.Transited.{is_realm}
 use Rattle.ticket_laws.proofs.Texts.{parts_only, realm_only}
 use Rattle.ticket_laws.proofs.Values.{int32_only}
@@ -32,41 +23,15 @@ use Rattle.krb_messages.specs.declared.pa_data.PaData.{PaData}
 use Rattle.krb_messages.specs.KdcReq.{is_as_req, kdc_req, msg_type_of}
 use Rattle.krb_messages.specs.KdcReq as request_form
 use Rattle.krb_messages.specs.KdcReqBody.{kdc_req_body}
-use Rattle.krb_messages.specs.KdcReqBody as body_form
 use Rattle.krb_messages.specs.Laws.{kdc_req_body_lawful}
 use Rattle.krb_messages.specs.PaData.{pa_data}
-use Rattle.as_core.specs.AsRequests.{extra_tickets}
 use Rattle.as_core.specs.Stamps.{items_of}
 use Rattle.ticket_codec.specs.Made.{IsTicketName}
 use Rattle.tgs_core.specs.Received.{IsReceived}
 use Rattle.tgs_core.specs.Requests.{is_within_limit, message_in, message_told}
 use Rattle.tgs_core.proofs.ReadRequests.{IsRead, message_is_told}
-
--- ---- what stands in fields
-
--- an element has its content and a byte at least
-content_within : (tag : ℕ) (content : List ℕ) → length content + 1 ≤ length (element tag content)
-content_within tag content = omega (arith, length-append (size (length content)) content)
-
--- the fields' spelling has at least n bytes
-record Holds {X : Type 0} (n : ℕ) (fields : Fields X) (x : X) : Type 0 where
-  le : n ≤ length (fields.content.spelling x)
-
-behind_holds : {X Y : Type 0} (n k : ℕ) (c : Codec X) (more : Fields Y) (x : X) (y : Y) → Holds n more y → Holds n (field k c more) (x, y)
-behind_holds n k c more x y rest = let le = rest.le in record { le = omega (arith, le, length-append (element (tag_of k) (c.spelling x)) (more.content.spelling y)) }
-
-behind_optional : {X Y : Type 0} (n k : ℕ) (c : Codec X) (more : Fields Y) (x : Option X) (y : Y) → Holds n more y → Holds n (optional k c more) (x, y)
-behind_optional n k c more x y rest = let le = rest.le in record { le = omega (arith, le, length-append (optional_spelling k c x) (more.content.spelling y)) }
-
-behind_dropped : {X Y : Type 0} (n k : ℕ) (c : Codec X) (more : Fields Y) (y : Y) → Holds n more y → Holds n (dropped k c more) y
-behind_dropped n k c more y rest = record { le = rest.le }
-
-field_holds : {X Y : Type 0} (k : ℕ) (c : Codec X) (more : Fields Y) (x : X) (y : Y) → Holds (length (c.spelling x)) (field k c more) (x, y)
-field_holds k c more x y =
-    record { le = omega (arith, content_within (tag_of k) (c.spelling x), length-append (element (tag_of k) (c.spelling x)) (more.content.spelling y)) }
-
-optional_holds : {X Y : Type 0} (k : ℕ) (c : Codec X) (more : Fields Y) (x : Option X) (y : Y) → Holds (length (optional_spelling k c x)) (optional k c more) (x, y)
-optional_holds k c more x y = record { le = omega (arith, length-append (optional_spelling k c x) (more.content.spelling y)) }
+use Rattle.tgs_core.proofs.ReceivedTickets.{extra_in_body, sealed_of_bytes, sealed_short}
+use Rattle.tgs_core.proofs.SpelledFields.{Holds, behind_holds, behind_optional, content_within, field_holds, optional_holds}
 
 -- ---- the padata and the body of a message
 
@@ -132,44 +97,6 @@ all_few : (items : List PaData) → AllByRecursion (λ item. length item.padata_
 all_few [] h = tt
 all_few (item ∷ items) h = let few = h.0 in (omega (arith, few), all_few items h.1)
 
--- ---- additional tickets
-
-count_within : (tickets : List Ticket) → length tickets ≤ length (flat_map ticket.spelling tickets)
-count_within [] = omega arith
-count_within (one ∷ tickets) =
-    let content : List ℕ = element 48 (ticket_form.parts.content.spelling (ticket_form.parts_of one)) in
-    let some : length content + 1 ≤ length (ticket.spelling one) = content_within 97 content in
-    omega (arith, some, count_within tickets, ap length (flat_map-cons ticket.spelling one tickets), length-append (ticket.spelling one) (flat_map ticket.spelling tickets))
-
-extra_within : (tickets : Option (List Ticket)) → extra_tickets tickets ≤ length (optional_spelling 11 (sequence_of ticket) tickets)
-extra_within None = omega arith
-extra_within (Some tickets) =
-    let list : List ℕ = flat_map ticket.spelling tickets in
-    omega (arith, count_within tickets, content_within 48 list, content_within (tag_of 11) (element 48 list))
-
-tickets_hold : (x : body_form.Parts) → Holds (length (optional_spelling 11 (sequence_of ticket) x.1.1.1.1.1.1.1.1.1.0)) body_form.parts x
-tickets_hold (options, (cname, (realm, (sname, (start, (till, (rtime, (nonce, (etype, (tickets, rest)))))))))) =
-    let n = length (optional_spelling 11 (sequence_of ticket) tickets) in
-    behind_holds n 0 flags _ _ _ (
-    behind_optional n 1 principal_name _ _ _ (
-    behind_holds n 2 realm_name _ _ _ (
-    behind_optional n 3 principal_name _ _ _ (
-    behind_optional n 4 kerberos_time _ _ _ (
-    behind_holds n 5 kerberos_time _ _ _ (
-    behind_optional n 6 kerberos_time _ _ _ (
-    behind_holds n 7 nonce_number _ _ _ (
-    behind_holds n 8 (sequence_of int32) _ _ _ (
-    behind_dropped n 9 (sequence_of host_address) _ _ (
-    behind_dropped n 10 encrypted_data _ _ (
-    optional_holds 11 (sequence_of ticket) end tickets rest)))))))))))
-
-extra_in_body : (body : KdcReqBody) → extra_tickets body.additional_tickets ≤ length (kdc_req_body.spelling body)
-unfolding kdc_req_body
-extra_in_body body =
-    let parts : body_form.Parts = body_form.parts_of body in
-    let held = (tickets_hold parts).le in
-    omega (arith, extra_within body.additional_tickets, held, content_within 48 (body_form.parts.content.spelling parts))
-
 -- ---- names
 
 server_named : (realm : List ℕ) (server : Option Principal) → is_realm realm ≡ true → named realm (unnamed server) ≡ server → IfSome (unnamed server) principal_name.Fits
@@ -218,6 +145,8 @@ short_is_received message read short =
       short = few;
       octets = read.octets;
       tickets = omega (arith, short, bytes, longer, extra);
+      sealed = sealed_short message.req_body (omega (arith, short, bytes, longer));
+      sealed_octets = sealed_of_bytes message.body_bytes message.req_body read.bytes body;
     }
 
 by_limit : (within : Bool) (bytes : List ℕ) (message : KdcReq) (found : Option KdcReq) → is_within_limit bytes ≡ within → (if within then found else None) ≡ Some message → length bytes ≤ 131072

@@ -1,7 +1,7 @@
 -- What a reply is made of can be written, and how long it is.
 use Rattle.std.proofs.Common.{◌≡◌, ℕ, ◌+◌, ◌*◌, ◌<◌, ◌≤◌, ◌^◌, Bool, true, false, List, [], ◌∷◌, length, pos, Option, Some, None, refl, sym, ap, length-append, arith}
 use Rattle.std.specs.Prelude.{FitsSigned, IfSome}
-use Rattle.std.specs.Int.{w32, w64}
+use Rattle.std.specs.Int.{w32}
 use Rattle.std.specs.List.{flat_map, AllByRecursion}
 use Rattle.std.specs.Str.{is_utf8}
 use Rattle.std.proofs.lemmas.List.Concat.{flat_map-cons}
@@ -17,7 +17,6 @@ use Rattle.der_forms.specs.Names.{realm}
 use Rattle.der_forms.specs.Times.{kerberos_time}
 use Rattle.der_forms.specs.Values.{flags as ticket_flags, nonce as nonce_number}
 use Rattle.krb_names.specs.Keys.{is_padded}
-use Rattle.krb_names.specs.declared.principal.Principal.{Principal}
 use Rattle.krb_names.proofs.TimeLaw.{written_again}
 use Rattle.krb_tickets.specs.declared.encrypted_data.EncryptedData.{EncryptedData}
 use Rattle.krb_tickets.specs.EncryptedData.{encrypted_data}
@@ -28,7 +27,7 @@ use Rattle.krb_tickets.specs.Ticket.{ticket}
 use Rattle.krb_tickets.specs.Transited.{is_realm}
 use Rattle.ticket_laws.specs.Writable.{are_parts}
 use Rattle.ticket_laws.proofs.Fields.{Within, dropped_within, end_within, field_within, optional_within}
-use Rattle.ticket_laws.proofs.Sizes.{append_within, element_within}
+use Rattle.ticket_laws.proofs.Sizes.{element_within}
 use Rattle.ticket_laws.proofs.Texts.{realm_fits, realm_short}
 use Rattle.ticket_laws.proofs.Values.{int32_fits, int32_within, key_fits, key_within, name_fits, name_within, number_fits, number_within, time_within, uint32_fits, uint32_within}
 use Rattle.krb_messages.specs.declared.enc_kdc_rep.EncKdcRep.{EncKdcRep}

@@ -1,5 +1,5 @@
 -- The record of a header is sound, and padata that are echoed can be written again.
-use Rattle.std.proofs.Common.{◌≡◌, ℕ, ◌+◌, ◌*◌, ◌<◌, ◌≤◌, ◌^◌, Bool, true, false, List, [], ◌∷◌, ◌++◌, length, Option, Some, None, Result, Ok, Err, refl, sym, ap, ◌∙◌, subst, length-append, arith}
+use Rattle.std.proofs.Common.{◌≡◌, ℕ, ◌<◌, ◌≤◌, Bool, true, false, List, [], ◌∷◌, ◌++◌, length, Option, Some, None, Result, Ok, Err, refl, sym, ap, ◌∙◌, subst, length-append, arith}
 use Rattle.std.specs.Prelude.{filter, if◌then◌else◌, option_and_then, option_map, pos, slice_get}
 use Rattle.std.specs.List.{AllByRecursion}
 use Rattle.aes_core.proofs.Inverse.{byte_in}
@@ -19,22 +19,19 @@ use Rattle.der_core.specs.Forms.{number_is}
 use Rattle.der_core.specs.Laws.{IsBytes}
 use Rattle.der_core.specs.Sizes.{size}
 use Rattle.der_forms.specs.Fields.{tag_of}
-use Rattle.der_forms.specs.Names.{realm as realm_name}
 use Rattle.der_forms.specs.Values.{flags}
 use Rattle.krb_tickets.specs.declared.enc_ticket_part.EncTicketPart.{EncTicketPart}
 use Rattle.krb_tickets.specs.declared.ticket.Ticket.{Ticket}
 use Rattle.krb_tickets.specs.EncryptedData.{encrypted_data}
 use Rattle.krb_tickets.specs.EncTicketPart.{enc_ticket_part}
-use Rattle.krb_tickets.specs.PrincipalName.{principal_name}
 use Rattle.krb_tickets.specs.Ticket.{ticket}
-use Rattle.ticket_laws.proofs.Bytes.{Keeps, end_keeps, field_keeps, field_passed, sealed_keeps}
+use Rattle.ticket_laws.proofs.Bytes.{end_keeps, field_keeps, field_passed}
 use Rattle.ticket_laws.proofs.Parts.{read_part_is_writable}
 use Rattle.ticket_laws.specs.Writable.{IsWritablePart}
 use Rattle.krb_messages.specs.declared.ap_req.ApReq.{ApReq}
 use Rattle.krb_messages.specs.declared.kdc_req.KdcReq.{KdcReq}
 use Rattle.krb_messages.specs.declared.pa_data.PaData.{PaData}
 use Rattle.krb_messages.specs.ApReq.{ap_req}
-use Rattle.krb_messages.specs.declared.checksum.Checksum.{Checksum}
 use Rattle.krb_messages.specs.Checksum.{checksum_form}
 use Rattle.krb_messages.specs.Laws.{ap_req_lawful}
 use Rattle.s4u_padata.specs.declared.for_user.ForUser.{ForUser}
@@ -45,6 +42,7 @@ use Rattle.s4u_padata.specs.X509User.{x509_user}
 use Rattle.s4u_padata.specs.X509User as echo_form
 use Rattle.kdc_records.specs.declared.decision.Aim.{Aim}
 use Rattle.kdc_records.specs.declared.decision.Aim.TheVariants.{Krbtgt, Hop, Account}
+use Rattle.kdc_records.specs.declared.holder.Holder.{Holder}
 use Rattle.kdc_records.specs.declared.ticket_rec.TicketRec.{TicketRec}
 use Rattle.dir_records.specs.declared.records.RealmRec.{RealmRec}
 use Rattle.dir_records.specs.DirectoryValue.{DirectoryValue}
@@ -53,6 +51,7 @@ use Rattle.as_core.specs.Stamps.{items_of}
 use Rattle.ticket_codec.specs.declared.holding.Holding.{Holding}
 use Rattle.ticket_codec.specs.declared.opening.Opened.{Opened}
 use Rattle.ticket_codec.specs.declared.presenting.Certified.{Certified}
+use Rattle.ticket_codec.specs.declared.role.Role.{Role}
 use Rattle.ticket_codec.specs.declared.role.Role.TheVariants.{Header as AsHeader}
 use Rattle.ticket_codec.specs.Holdings.{account_holding, aim_holding, aim_holding_in, hop_holding, krbtgt_holding}
 use Rattle.ticket_codec.specs.Opening.{opened_of, opened_with, part_in, part_of_text, part_read}
@@ -60,6 +59,7 @@ use Rattle.ticket_codec.specs.Presented.{are_signatures_right, certified, certif
 use Rattle.ticket_codec.specs.Roles.{holder_place, holding}
 use Rattle.ticket_parts.specs.declared.reading.ReadRecord.{ReadRecord}
 use Rattle.ticket_parts.proofs.ReadSound.{read_is_sound}
+use Rattle.ticket_parts.proofs.Steps.{read_holder}
 use Rattle.ticket_parts.specs.Records.{record_of}
 use Rattle.ticket_parts.specs.Sound.{IsSound}
 use Rattle.tgs_requests.specs.declared.asking.SelfAsked.{SelfAsked}
@@ -70,6 +70,7 @@ use Rattle.tgs_core.specs.Grants.{IsEchoable, x509_asked, x509_in}
 use Rattle.tgs_core.specs.Received.{IsReceived}
 use Rattle.tgs_core.proofs.FoundGrants.{IsStep, at_index, mapped_of, some_is, step_of}
 use Rattle.tgs_core.proofs.ReadRequests.{AreOfBytes}
+use Rattle.tgs_core.proofs.ReceivedTickets.{ticket_keeps}
 
 -- ---- padata of one type
 
@@ -105,19 +106,11 @@ one_item form P (item ∷ []) x h e =
     record { item = item; holds = h.0; read = read_ok (whole form item.padata_value) x (read.was ∙ read.is) }
 one_item form P (item ∷ more ∷ items) x h e = absurd cc
 
-then_of : {A B : Type 0} (found : Option A) (f : A → Option B) (y : B) → option_and_then f found ≡ Some y → IsStep found f y
+pub then_of : {A B : Type 0} (found : Option A) (f : A → Option B) (y : B) → option_and_then f found ≡ Some y → IsStep found f y
 then_of None f y e = absurd cc
 then_of (Some x) f y e = record { value = x; was = refl; is = e }
 
--- ---- the octets of a ticket
-
-ticket_keeps : (bytes : List ℕ) (t : Ticket) → IsBytes bytes → ticket.IsDer bytes t → IsBytes t.sealed.cipher
-ticket_keeps bytes t h d =
-    let fields = field_passed 0 (number_is (pos 5)) _ _ (field_passed 1 realm_name _ _ (field_passed 2 principal_name _ _ (field_keeps 3 encrypted_data _ _ _ sealed_keeps end_keeps))) in
-    let outer = IsBytes-content 97 bytes d.content h d.outside in
-    let inner = IsBytes-content 48 d.content d.inside.content outer d.inside.outside in
-    let own = fields.keeps d.inside.content d.inside.inside.parts inner d.inside.inside.spelt in
-    subst (λ (t : Ticket). IsBytes t.sealed.cipher) d.inside.inside.made own.0
+-- ---- the octets of a header's ticket
 
 ap_req_keeps : (bytes : List ℕ) (ap : ApReq) → IsBytes bytes → whole ap_req bytes ≡ Ok ap → IsBytes ap.ticket.sealed.cipher
 unfolding ap_req
@@ -156,10 +149,10 @@ aimed_key dir at aim held h e =
     let key = held_in realm.value aim held (at_index IsRealmInRange dir.realms at realm.value h.in_range.realms realm.was) realm.is in
     (key.size, octets_are held.key.key.raw key.octets)
 
-holder_key : (dir : DirectoryValue) (at : ℕ) (t : Ticket) (held : Holding) → IsDirectory dir → holding dir at AsHeader t ≡ Some held → IsKey held.key.key
+holder_key : (dir : DirectoryValue) (at : ℕ) (role : Role) (t : Ticket) (held : Holding) → IsDirectory dir → holding dir at role t ≡ Some held → IsKey held.key.key
 unfolding holding
-holder_key dir at t held h e =
-    let place = step_of (holder_place dir at AsHeader t) (λ (place : ℕ × Aim). aim_holding dir place.0 place.1) held e in
+holder_key dir at role t held h e =
+    let place = step_of (holder_place dir at role t) (λ (place : ℕ × Aim). aim_holding dir place.0 place.1) held e in
     aimed_key dir place.value.0 place.value.1 held h place.is
 
 -- ---- what a ticket says
@@ -175,12 +168,12 @@ text_writable key cipher (Some text) part h k was e =
     let opens = (opened_opens key 2 cipher text (IsKey-dk key _ h) k).0 was in
     read_part_is_writable text part (λ i. byte_in text i opens.1.1) (part_ok (whole enc_ticket_part text) part e)
 
-opened_writable : (dir : DirectoryValue) (at : ℕ) (t : Ticket) (found : Option Holding) (unsealed : Opened) → IsDirectory dir → IsBytes t.sealed.cipher → holding dir at AsHeader t ≡ found
-    → option_and_then (opened_with t) found ≡ Some unsealed → IsWritablePart unsealed.part
-opened_writable dir at t None unsealed h bytes was e = absurd cc
-opened_writable dir at t (Some held) unsealed h bytes was e =
+pub opened_writable : (dir : DirectoryValue) (at : ℕ) (role : Role) (t : Ticket) (found : Option Holding) (unsealed : Opened) → IsDirectory dir → IsBytes t.sealed.cipher
+    → holding dir at role t ≡ found → option_and_then (opened_with t) found ≡ Some unsealed → IsWritablePart unsealed.part
+opened_writable dir at role t None unsealed h bytes was e = absurd cc
+opened_writable dir at role t (Some held) unsealed h bytes was e =
     let part = mapped_of (part_in held.key.key t.sealed.cipher) (opened_of held) unsealed e in
-    let key = holder_key dir at t held h was in
+    let key = holder_key dir at role t held h was in
     let cipher : List ℕ = t.sealed.cipher in
     let writable = text_writable held.key.key cipher (opened held.key.key 2 cipher) part.value key (bytes_below cipher bytes) refl part.was in
     subst (λ (unsealed : Opened). IsWritablePart unsealed.part) part.is writable
@@ -194,9 +187,32 @@ certified_sound true unsealed shown w e =
     let read = mapped_of (record_of unsealed.holder unsealed.part) certified_of shown e in
     subst (λ (shown : Certified). IsSound shown.rec) read.is (read_is_sound unsealed.holder unsealed.part read.value w read.was)
 
-shown_sound : (dir : DirectoryValue) (at : ℕ) (unsealed : Opened) (shown : Certified) → IsWritablePart unsealed.part → certified dir at unsealed ≡ Some shown → IsSound shown.rec
+pub shown_sound : (dir : DirectoryValue) (at : ℕ) (unsealed : Opened) (shown : Certified) → IsWritablePart unsealed.part → certified dir at unsealed ≡ Some shown → IsSound shown.rec
 unfolding certified
 shown_sound dir at unsealed shown w e = certified_sound (are_signatures_right dir at unsealed) unsealed shown w e
+
+-- what a record that was certified tells of the part
+told_by : (right : Bool) (unsealed : Opened) (shown : Certified) → (if right then option_map certified_of (record_of unsealed.holder unsealed.part) else None) ≡ Some shown
+    → record_of unsealed.holder unsealed.part ≡ Some (record { rec = shown.rec; agrees = shown.agrees })
+told_by false unsealed shown e = absurd cc
+told_by true unsealed shown e =
+    let read = mapped_of (record_of unsealed.holder unsealed.part) certified_of shown e in
+    read.was ∙ ap (λ (c : Certified). let told : Option ReadRecord = Some (record { rec = c.rec; agrees = c.agrees }) in told) read.is
+
+certified_told : (dir : DirectoryValue) (at : ℕ) (unsealed : Opened) (shown : Certified) → certified dir at unsealed ≡ Some shown
+    → record_of unsealed.holder unsealed.part ≡ Some (record { rec = shown.rec; agrees = shown.agrees })
+unfolding certified
+certified_told dir at unsealed shown e = told_by (are_signatures_right dir at unsealed) unsealed shown e
+
+-- its holder is the one for whom the ticket is sealed
+pub certified_holder : (dir : DirectoryValue) (at : ℕ) (unsealed : Opened) (shown : Certified) → certified dir at unsealed ≡ Some shown → shown.rec.holder ≡ unsealed.holder
+certified_holder dir at unsealed shown e =
+    read_holder unsealed.holder unsealed.part (record { rec = shown.rec; agrees = shown.agrees }) (certified_told dir at unsealed shown e)
+
+pub certified_is_told : (dir : DirectoryValue) (at : ℕ) (unsealed : Opened) (shown : Certified) → certified dir at unsealed ≡ Some shown
+    → record_of shown.rec.holder unsealed.part ≡ Some (record { rec = shown.rec; agrees = shown.agrees })
+certified_is_told dir at unsealed shown e =
+    ap (λ (holder : Holder). record_of holder unsealed.part) (certified_holder dir at unsealed shown e) ∙ certified_told dir at unsealed shown e
 
 agreed_is : (agrees : Bool) (rec told : TicketRec) → (if agrees then Some rec else None) ≡ Some told → rec ≡ told
 agreed_is true rec told e = some_is rec told e
@@ -213,11 +229,57 @@ header_is_sound dir at message header rec h octets e shows =
     let cipher = ap_req_keeps of_item.item.padata_value request of_item.holds of_item.read in
     let unsealed = then_of (ticket_opened dir at request.ticket) (header_by dir at request.authenticator) header shows_in.is in
     let auth = mapped_of (authenticator_in unsealed.value.part.key request.authenticator) (header_with dir at unsealed.value) header unsealed.is in
-    let writable = opened_writable dir at request.ticket (holding dir at AsHeader request.ticket) unsealed.value h cipher refl unsealed.was in
+    let writable = opened_writable dir at AsHeader request.ticket (holding dir at AsHeader request.ticket) unsealed.value h cipher refl unsealed.was in
     let is : header_with dir at unsealed.value auth.value ≡ header = auth.is in
     let shown = step_of header.certified agreed_record rec shows in
     let told : certified dir at unsealed.value ≡ Some shown.value = ap (λ (x : Header). x.certified) is ∙ shown.was in
     subst IsSound (agreed_is shown.value.agrees shown.value.rec rec shown.is) (shown_sound dir at unsealed.value shown.value writable told)
+
+-- ---- what the record of a header tells
+
+-- it is certified of what was opened
+header_certified : (dir : DirectoryValue) (at : ℕ) (message : KdcReq) (header : Header) → header_in dir at message ≡ Some header → certified dir at header.opened ≡ header.certified
+unfolding header_in
+header_certified dir at message header e =
+    let request = then_of (ap_req_of message) (header_of dir at) header e in
+    let unsealed = then_of (ticket_opened dir at request.value.ticket) (header_by dir at request.value.authenticator) header request.is in
+    let auth = mapped_of (authenticator_in unsealed.value.part.key request.value.authenticator) (header_with dir at unsealed.value) header unsealed.is in
+    subst (λ (made : Header). certified dir at made.opened ≡ made.certified) auth.is refl
+
+-- the record that was certified, and that it agrees
+record IsAgreed (found : Option Certified) (rec : TicketRec) : Type 0 where
+  shown : Certified
+  was : found ≡ Some shown
+  is : shown.rec ≡ rec
+  agrees : shown.agrees ≡ true
+
+agreed_by : (agrees : Bool) (shown : Certified) (rec : TicketRec) (found : Option Certified) → found ≡ Some shown → shown.agrees ≡ agrees → (if agrees then Some shown.rec else None) ≡ Some rec
+    → IsAgreed found rec
+agreed_by true shown rec found was agrees e = record { shown = shown; was = was; is = some_is shown.rec rec e; agrees = agrees }
+agreed_by false shown rec found was agrees e = absurd cc
+
+header_agreed : (header : Header) (rec : TicketRec) → record_in header ≡ Some rec → IsAgreed header.certified rec
+header_agreed header rec shows =
+    let shown = step_of header.certified agreed_record rec shows in
+    agreed_by shown.value.agrees shown.value rec header.certified shown.was refl shown.is
+
+-- its holder is the one for whom the ticket is sealed
+pub header_holder : (dir : DirectoryValue) (at : ℕ) (message : KdcReq) (header : Header) (rec : TicketRec) → header_in dir at message ≡ Some header → record_in header ≡ Some rec
+    → rec.holder ≡ header.opened.holder
+header_holder dir at message header rec e shows =
+    let agreed = header_agreed header rec shows in
+    let told = certified_holder dir at header.opened agreed.shown (header_certified dir at message header e ∙ agreed.was) in
+    sym (ap (λ (r : TicketRec). r.holder) agreed.is) ∙ told
+
+-- the part tells it
+pub header_is_told : (dir : DirectoryValue) (at : ℕ) (message : KdcReq) (header : Header) (rec : TicketRec) → header_in dir at message ≡ Some header → record_in header ≡ Some rec
+    → record_of rec.holder header.opened.part ≡ Some (record { rec = rec; agrees = true })
+header_is_told dir at message header rec e shows =
+    let agreed = header_agreed header rec shows in
+    let told = certified_is_told dir at header.opened agreed.shown (header_certified dir at message header e ∙ agreed.was) in
+    let of_rec : record_of rec.holder header.opened.part ≡ Some (record { rec = rec; agrees = agreed.shown.agrees }) =
+    subst (λ (r : TicketRec). record_of r.holder header.opened.part ≡ Some (record { rec = r; agrees = agreed.shown.agrees })) agreed.is told in
+    subst (λ (agrees : Bool). record_of rec.holder header.opened.part ≡ Some (record { rec = rec; agrees = agrees })) agreed.agrees of_rec
 
 -- ---- padata that are echoed
 

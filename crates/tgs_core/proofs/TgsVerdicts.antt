@@ -1,21 +1,18 @@
 -- How a TGS-REQ is judged, group by group.
-use Rattle.std.proofs.Common.{◌≡◌, ◌∙◌, ℕ, Bool, true, false, List, [], ◌∷◌, ◌++◌, drop, Option, Some, None, refl, sym, ap}
-use Rattle.std.specs.Prelude.{◌&&◌, ◌||◌, is_some, not, if◌then◌else◌}
-use Rattle.kdc_prelude.proofs.Bools.{both}
+use Rattle.std.proofs.Common.{◌≡◌, ◌∙◌, ℕ, Bool, true, false, List, ◌++◌, drop, Option, Some, None, refl, sym, ap}
+use Rattle.std.specs.Prelude.{◌||◌, is_some, not, if◌then◌else◌}
 use Rattle.kdc_prelude.specs.Options.{holds_of}
-use Rattle.kdc_prelude.specs.Steps.{◌>>=◌}
 use Rattle.kdc_prelude.specs.Verdicts.{first_failing, ◌or_else◌}
 use Rattle.krb_names.specs.declared.moment.Moment.{Moment}
-use Rattle.krb_names.specs.declared.principal.Principal.{Principal}
 use Rattle.krb_messages.specs.declared.kdc_req.KdcReq.{KdcReq}
 use Rattle.krb_messages.specs.KdcReq.{is_as_req}
+use Rattle.kdc_records.specs.declared.decision.Aim.{Aim}
 use Rattle.kdc_records.specs.declared.rule.Rule.{Rule}
 use Rattle.kdc_records.specs.declared.rule.Rule.TheVariants.{G1, G2, G3, G4, G5}
 use Rattle.kdc_records.specs.declared.ticket_rec.TicketRec.{TicketRec}
 use Rattle.kdc_records.specs.declared.wish.Branch.{Branch}
 use Rattle.kdc_records.specs.declared.wish.Branch.TheVariants.{Initial, Ordinary, SelfTicket, Proxy}
 use Rattle.kdc_records.specs.declared.wish.Wish.{Wish}
-use Rattle.kdc_records.specs.Bits.{has_bit}
 use Rattle.kdc_records.specs.Decisions.{decided, is_grant}
 use Rattle.dir_records.specs.DirectoryValue.{DirectoryValue}
 use Rattle.as_core.specs.AsRequests.{as_wish}
@@ -24,15 +21,19 @@ use Rattle.s4u_rules.specs.Granted.{SelfGrants}
 use Rattle.s4u_rules.specs.Headers.{Shown, record_of}
 use Rattle.s4u_rules.specs.SelfRules.{self_rules, self_terms, user_is_local, user_record}
 use Rattle.s4u_rules.specs.SelfRules as selves
-use Rattle.s4u_rules.specs.TgsRules.{header_rules, is_for_its_client, options_are_plain, ordinary_rules, ordinary_terms}
-use Rattle.ticket_codec.specs.Rules.{header_key_fits, header_opens}
+use Rattle.s4u_rules.specs.TgsRules.{aim_of, header_rules, ordinary_rules, ordinary_terms}
+use Rattle.proxy_rules.proofs.Grants.{granted as proxy_known}
+use Rattle.proxy_rules.specs.ProxyRules.{proxy_rules}
+use Rattle.proxy_requests.proofs.EvidenceFound.{evidence_kept}
+use Rattle.proxy_requests.specs.declared.evidence.Evidence.{Evidence}
+use Rattle.proxy_requests.specs.Evidences.{evidence_in, evidence_reading_rules, evidence_seen_of}
+use Rattle.ticket_codec.specs.Rules.{header_is_for_this_realm, header_key_fits, header_opens}
 use Rattle.tgs_requests.specs.declared.header.Header.{Header}
 use Rattle.tgs_requests.specs.Askings.{asks_proxy, asks_self, branch_of, tgs_branch, tgs_wish, wish_of}
-use Rattle.tgs_requests.specs.Headers.{ap_req_of, header_in, header_is_local, reading_rules, record_in, shown_header}
+use Rattle.tgs_requests.specs.Headers.{ap_req_of, header_in, reading_rules, record_in, shown_header}
 use Rattle.tgs_requests.specs.SelfSums.{user_rules}
-use Rattle.tgs_core.specs.Grants.{user_account}
 use Rattle.tgs_core.specs.Requests.{Request, opening_rules, request_to}
-use Rattle.tgs_core.specs.Verdicts.{HeaderKept, OrdinaryGrants, SelfTicketGrants, branch_rows, opened_rows, ordinary_rows, rules_of_branch, self_rows, tgs_rules, verdict}
+use Rattle.tgs_core.specs.Verdicts.{HeaderKept, OrdinaryGrants, ProxyTicketGrants, SelfTicketGrants, aimed_rows, branch_rows, evidence_rows, opened_rows, ordinary_rows, proxy_rows, rules_of_branch, self_rows, tgs_rules, verdict}
 use Rattle.tgs_core.proofs.Openings.{IsOpened, branch_verdict, failing_append, or_none, passes}
 
 -- ---- groups, one after the other
@@ -74,7 +75,7 @@ tgs_known dir now request branch h =
     let rows = reading_rules dir at message in
     let groups = none_of_both rows (opened_rows dir now request branch (header_in dir at message)) h in
     let g1 = passes G1 (is_some (ap_req_of message)) (drop 1 rows) groups.0 in
-    let g2 = passes G2 (holds_of (header_is_local dir at) (ap_req_of message)) (drop 2 rows) g1.1 in
+    let g2 = passes G2 (holds_of (λ ap. header_is_for_this_realm dir at ap.ticket) (ap_req_of message)) (drop 2 rows) g1.1 in
     let g3 = passes G3 (holds_of (λ ap. header_key_fits dir at ap.ticket) (ap_req_of message)) (drop 3 rows) g2.1 in
     let g4 = passes G4 (holds_of (λ ap. header_opens dir at ap.ticket) (ap_req_of message)) (drop 4 rows) g3.1 in
     let g5 = passes G5 (is_some (header_in dir at message)) (drop 5 rows) g4.1 in
@@ -108,7 +109,7 @@ self_kept dir now request h =
       granted = self_known dir at now request.wish rec g.kept.granted.aim selves.Shown (ap (λ (failing : Option Rule). is_grant (decided failing terms)) none);
     }
 
--- ---- the user of S4U2self
+-- of S4U2proxy
 
 -- what is there
 pub record IsThere {X : Type 0} (found : Option X) : Type 0 where
@@ -119,16 +120,43 @@ pub there : {X : Type 0} (found : Option X) → is_some found ≡ true → IsThe
 there None h = absurd cc
 there (Some x) h = record { value = x; is = refl }
 
+pub evidence_there : (dir : DirectoryValue) (at : ℕ) (message : KdcReq) (header : TicketRec) → first_failing (evidence_reading_rules dir at message header) ≡ None → IsThere (evidence_in dir at message header)
+evidence_there dir at message header h =
+    let kept = evidence_kept dir at message header h in
+    record { value = kept.evidence; is = kept.found }
+
+pub proxy_kept : (dir : DirectoryValue) (now : Moment) (request : Request) → first_failing (tgs_rules dir now request Proxy) ≡ None → ProxyTicketGrants dir now request
+proxy_kept dir now request h =
+    let g = tgs_known dir now request Proxy h in
+    let at = request.realm in
+    let message = request.message in
+    let rec = g.kept.rec in
+    let aim = g.kept.granted.aim in
+    let rows : first_failing (proxy_rows dir now request (Some rec)) ≡ None = sym (ap (λ (found : Option TicketRec). first_failing (proxy_rows dir now request found)) g.kept.shown) ∙ g.behind in
+    let groups = none_of_both (evidence_reading_rules dir at message rec) (evidence_rows dir now request rec (evidence_in dir at message rec)) rows in
+    let evidence = evidence_there dir at message rec groups.0 in
+    let aimed : first_failing (aimed_rows dir now request rec evidence.value (aim_of dir at request.wish)) ≡ None =
+    sym (ap (λ (found : Option Evidence). first_failing (evidence_rows dir now request rec found)) evidence.is) ∙ groups.1 in
+    let none : first_failing (proxy_rules dir at now request.wish rec aim (evidence_seen_of evidence.value)) ≡ None =
+    sym (ap (λ (found : Option Aim). first_failing (aimed_rows dir now request rec evidence.value found)) g.kept.granted.aimed) ∙ aimed in
+    record {
+      kept = g.kept;
+      evidence = evidence.value;
+      found = evidence.is;
+      reading = groups.0;
+      granted = proxy_known dir at now request.wish rec aim (evidence_seen_of evidence.value) none;
+    }
+
+-- ---- the user of S4U2self
+
 known_by : (local known : Bool) → local ≡ true → (not local || known) ≡ true → known ≡ true
 known_by true known e h = h
 known_by false known e h = absurd cc
 
--- has an account
-pub user_there : (dir : DirectoryValue) (at : ℕ) (now : Moment) (wish : Wish) (rec : TicketRec) → SelfGrants dir at now wish rec selves.Shown → IsThere (user_account dir at wish)
-user_there dir at now wish rec g =
-    let local = (both (user_is_local dir at g.user) (is_for_its_client rec) g.of_this_realm).0 in
-    let account = there (user_record dir at g.user) (known_by (user_is_local dir at g.user) _ local g.user_known) in
-    record { value = account.value; is = ap (λ (found : Option Principal). found >>= user_record dir at) g.named ∙ account.is }
+-- a user of this realm has an account
+pub user_there : (dir : DirectoryValue) (at : ℕ) (now : Moment) (wish : Wish) (rec : TicketRec) (g : SelfGrants dir at now wish rec selves.Shown) → user_is_local dir at g.user ≡ true
+    → IsThere (user_record dir at g.user)
+user_there dir at now wish rec g local = there (user_record dir at g.user) (known_by (user_is_local dir at g.user) _ local g.user_known)
 
 -- ---- the branch of a TGS-REQ
 
@@ -154,32 +182,3 @@ tgs_verdict dir now bytes message realm opens h =
 -- what it asks for
 pub tgs_wish_is : (message : KdcReq) → is_as_req message ≡ false → wish_of message ≡ tgs_wish message
 tgs_wish_is message e = ap (λ (b : Bool). if b then as_wish message.req_body else tgs_wish message) e
-
--- ---- S4U2proxy is denied by G18
-
-proxy_asked : (self proxy : Bool) → (let branch : Branch = (if self then SelfTicket else (if proxy then Proxy else Ordinary)) in branch ≡ Proxy) → proxy ≡ true
-proxy_asked true proxy e = absurd (cc)
-proxy_asked false true e = refl
-proxy_asked false false e = absurd (cc)
-
-options_by : (is_as : Bool) (message : KdcReq) → (if is_as then as_wish message.req_body else tgs_wish message).options ≡ message.req_body.kdc_options
-unfolding tgs_wish
-options_by true message = refl
-options_by false message = refl
-
--- cname-in-addl-tkt is not plain
-not_plain : (a b c : Bool) (rest both : Bool) → c ≡ true → ((not a && (not b && (not c && rest))) && both) ≡ true → ⊥
-not_plain true b c rest both e h = cc
-not_plain false true c rest both e h = cc
-not_plain false false true rest both e h = cc
-not_plain false false false rest both e h = cc
-
-asked_by : (is_as : Bool) (message : KdcReq) → (if is_as then Initial else tgs_branch message) ≡ Proxy → asks_proxy message ≡ true
-asked_by true message e = absurd (cc)
-asked_by false message e = proxy_asked (asks_self message) (asks_proxy message) e
-
-pub proxy_denied : (message : KdcReq) → branch_of message ≡ Proxy → options_are_plain (wish_of message) ≡ true → ⊥
-proxy_denied message e plain =
-    let wish : Wish = wish_of message in
-    let set : has_bit 14 wish.options ≡ true = ap (has_bit 14) (options_by (is_as_req message) message) ∙ asked_by (is_as_req message) message e in
-    not_plain (has_bit 2 wish.options) (has_bit 4 wish.options) (has_bit 14 wish.options) _ (not wish.both) set plain

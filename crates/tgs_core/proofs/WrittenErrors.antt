@@ -1,13 +1,10 @@
 -- The error of a rule can be written, and how long it is.
-use Rattle.std.proofs.Common.{◌≡◌, ℕ, ◌≤◌, Bool, true, false, cond, ◌&&◌, List, [], ◌∷◌, length, pos, Option, Some, None, refl, ap, arith}
-use Rattle.std.specs.Prelude.{FitsSigned, IfSome, codes, option_map, slice_get, unwrap_or}
-use Rattle.std.specs.Int.{w32}
+use Rattle.std.proofs.Common.{◌≡◌, ℕ, ◌≤◌, Bool, true, false, cond, ◌&&◌, List, [], ◌∷◌, length, Option, Some, None, refl, arith}
+use Rattle.std.specs.Prelude.{IfSome, option_map, slice_get, unwrap_or}
 use Rattle.std.specs.List.{AllByRecursion}
-use Rattle.std.proofs.lemmas.Str.{chars-IsAscii}
 use Rattle.krb_names.specs.declared.moment.Moment.{Moment}
 use Rattle.krb_names.specs.declared.principal.Principal.{Principal}
 use Rattle.krb_tickets.specs.Transited.{is_realm}
-use Rattle.ticket_laws.specs.Writable.{are_parts}
 use Rattle.krb_messages.specs.declared.kdc_req.KdcReq.{KdcReq}
 use Rattle.krb_messages.specs.KrbError.{krb_error}
 use Rattle.kdc_records.specs.declared.rule.Rule.{Rule}
@@ -21,7 +18,8 @@ use Rattle.tgs_core.specs.Errors.{account_asking, error_data, error_of, error_re
 use Rattle.tgs_core.specs.Received.{IsReceived}
 use Rattle.tgs_core.specs.Requests.{realm_is_known}
 use Rattle.tgs_core.proofs.Askers.{asking_is_member}
-use Rattle.tgs_core.proofs.ErrorForms.{are_ascii, ascii_is_text, error_fits, error_short, methods_short}
+use Rattle.tgs_core.proofs.ErrorForms.{error_fits, error_short, methods_short}
+use Rattle.tgs_core.proofs.SoundGrants.{krbtgt_parts}
 
 -- ---- realms
 
@@ -45,12 +43,6 @@ realm_is_named dir None h received = first_is_named dir h
 realm_is_named dir (Some message) h received = chosen_is_named (realm_is_known dir message) message.req_body.realm (first_realm dir) received.realm (first_is_named dir h)
 
 -- ---- servers
-
-krbtgt_is_text : is_realm (codes "krbtgt") ≡ true
-krbtgt_is_text = rw (ascii_is_text (codes "krbtgt") refl, chars-IsAscii (codes "krbtgt") (are_ascii (codes "krbtgt") refl)) refl
-
-krbtgt_parts : (realm : List ℕ) → is_realm realm ≡ true → are_parts (pos 2) (codes "krbtgt" ∷ realm ∷ []) ≡ true
-krbtgt_parts realm h = rw (krbtgt_is_text, h) refl
 
 krbtgt_is_named : (realm : List ℕ) → is_realm realm ≡ true → IsTicketName realm (krbtgt_of realm)
 krbtgt_is_named realm h = record { realm = h; same = refl; kind = record { sfits = omega arith }; parts = krbtgt_parts realm h }

@@ -25,7 +25,7 @@ use Rattle.kdc_records.specs.declared.ticket_rec.TicketRec.{TicketRec}
 use Rattle.dir_records.specs.declared.records.Account.{Account as AccountRec}
 use Rattle.dir_records.specs.IsDirectory.{IsAccount, IsAccountInRange}
 use Rattle.ticket_parts.specs.Sound.{IsSound}
-use Rattle.tgs_core.specs.Grants.{ByAccount, ByHeader, ForUser, Grant, Grounds, IsEchoable, IsGrant, IsGrounds, granted_record, reply_confounder}
+use Rattle.tgs_core.specs.Grants.{ByAccount, ByEvidence, ByHeader, ForHeadersUser, ForUser, Grant, Grounds, IsEchoable, IsGrant, IsGrounds, granted_record, reply_confounder}
 use Rattle.tgs_core.specs.Replies.{echo_padata, key_entry, key_info, part_tag, reply_key, reply_of, reply_padata, reply_part, reply_type, sealed_with, tgs_key, ticket_made}
 use Rattle.tgs_core.proofs.EchoForms.{echo_short}
 use Rattle.tgs_core.proofs.ReplyForms.{IsShortReply, IsWritableEntry, IsWritableReply, IsWritableReplyPart, entry_fits, entry_short, padata_fits, padata_short, part_fits, part_short, reply_fits, reply_short}
@@ -81,14 +81,22 @@ padata_fit (ByAccount account) = (nineteen, tt)
 padata_fit (ByHeader shown) = tt
 padata_fit (ForUser shown account None) = tt
 padata_fit (ForUser shown account (Some asked)) = (hundred_thirty, tt)
+padata_fit (ForHeadersUser shown None) = tt
+padata_fit (ForHeadersUser shown (Some asked)) = (hundred_thirty, tt)
+padata_fit (ByEvidence shown evidence) = tt
 
 padata_are_short : (grounds : Grounds) → IsGrounds grounds → IfSome (reply_padata grounds) (λ items. length ((sequence_of pa_data).spelling items) ≤ 112 + 2 ^ 24)
 padata_are_short (ByAccount account) h = omega (arith, lone_short (key_info account) 2142 (key_info_short account h.0 h.1))
 padata_are_short (ByHeader shown) h = tt
 padata_are_short (ForUser shown account None) h = tt
 padata_are_short (ForUser shown account (Some asked)) h =
-    let key : Key = (tgs_key shown.session shown.subkey).key in
+    let key : Key = (tgs_key shown.part.key shown.subkey).key in
     omega (arith, lone_short (echo_padata key asked) (106 + 2 ^ 24) (echo_padata_short key asked h.1.1))
+padata_are_short (ForHeadersUser shown None) h = tt
+padata_are_short (ForHeadersUser shown (Some asked)) h =
+    let key : Key = (tgs_key shown.part.key shown.subkey).key in
+    omega (arith, lone_short (echo_padata key asked) (106 + 2 ^ 24) (echo_padata_short key asked h.1))
+padata_are_short (ByEvidence shown evidence) h = tt
 
 -- ---- what is sealed in the reply
 
@@ -96,6 +104,8 @@ tag_is : (grounds : Grounds) → tag_in 0x79 0x7a (is_first_tag (part_tag ground
 tag_is (ByAccount account) = refl
 tag_is (ByHeader shown) = refl
 tag_is (ForUser shown account asked) = refl
+tag_is (ForHeadersUser shown asked) = refl
+tag_is (ByEvidence shown evidence) = refl
 
 part_is : (grant : Grant) (t : TicketRec) → IsGrant grant → IsSound t → IsWritableReplyPart (reply_part grant t)
 part_is grant t g s = record {
@@ -137,11 +147,15 @@ pub type_passed : (grounds : Grounds) → to_z w32 (of_z w32 (reply_type grounds
 type_passed (ByAccount account) = refl
 type_passed (ByHeader shown) = refl
 type_passed (ForUser shown account asked) = refl
+type_passed (ForHeadersUser shown asked) = refl
+type_passed (ByEvidence shown evidence) = refl
 
 kind_is : (grounds : Grounds) → msg_type_of (is_eleven (reply_type grounds)) ≡ reply_type grounds
 kind_is (ByAccount account) = refl
 kind_is (ByHeader shown) = refl
 kind_is (ForUser shown account asked) = refl
+kind_is (ForHeadersUser shown asked) = refl
+kind_is (ByEvidence shown evidence) = refl
 
 tgs_version : (session : Key) (subkey : Option Key) → IfSome (tgs_key session subkey).version (λ n. n < 2 ^ 32)
 tgs_version session None = tt
@@ -149,8 +163,10 @@ tgs_version session (Some subkey) = tt
 
 version_fits : (grounds : Grounds) → IsGrounds grounds → IfSome (reply_key grounds).version (λ n. n < 2 ^ 32)
 version_fits (ByAccount account) h = h.1.key.version
-version_fits (ByHeader shown) h = tgs_version shown.session shown.subkey
-version_fits (ForUser shown account asked) h = tgs_version shown.session shown.subkey
+version_fits (ByHeader shown) h = tgs_version shown.part.key shown.subkey
+version_fits (ForUser shown account asked) h = tgs_version shown.part.key shown.subkey
+version_fits (ForHeadersUser shown asked) h = tgs_version shown.part.key shown.subkey
+version_fits (ByEvidence shown evidence) h = tgs_version shown.part.key shown.subkey
 
 reply_is_writable : (grant : Grant) (block : List ℕ) → IsMadeReply grant block → IsWritableReply (reply_of grant block)
 unfolding reply_of

@@ -1,5 +1,5 @@
 -- What a request is answered, and what is noted of it.
-use Rattle.std.specs.Prelude.{ℕ, List, Option, None, Some, option_map, Bool, true, false}
+use Rattle.std.specs.Prelude.{ℕ, List, Option, None, Some, option_map}
 use Rattle.krb_names.specs.declared.moment.Moment.{Moment}
 use Rattle.krb_messages.specs.declared.kdc_req.KdcReq.{KdcReq}
 use Rattle.kdc_records.specs.declared.rule.Rule.{Rule}
@@ -8,7 +8,6 @@ use Rattle.kdc_records.specs.declared.wish.Branch.{Branch}
 use Rattle.dir_records.specs.DirectoryValue.{DirectoryValue}
 use Rattle.tgs_requests.specs.Askings.{branch_of}
 use Rattle.tgs_core.specs.declared.answered.Answered.{Answered}
-use Rattle.tgs_core.specs.declared.answered.Note.{Note}
 use Rattle.tgs_core.specs.Errors.{error_bytes}
 use Rattle.tgs_core.specs.Grants.{grant_in}
 use Rattle.tgs_core.specs.Replies.{reply_bytes}

@@ -1,5 +1,5 @@
 -- The reply to a request that is denied (RFC 4120, sections 3.1.4 and 5.9.1).
-use Rattle.std.specs.Prelude.{ℕ, ℤ, pos, Bool, true, false, List, [], ◌∷◌, codes, Option, None, Some, option_map, slice_get, unwrap_or, if◌then◌else◌}
+use Rattle.std.specs.Prelude.{ℕ, pos, List, [], ◌∷◌, codes, Option, None, Some, option_map, slice_get, unwrap_or, if◌then◌else◌}
 use Rattle.kdc_prelude.specs.Steps.{◌>>=◌}
 use Rattle.krb_names.specs.declared.moment.Moment.{Moment}
 use Rattle.krb_names.specs.declared.principal.Principal.{Principal}

@@ -8,11 +8,11 @@ use Rattle.ticket_parts.specs.Sound.{IsSound}
 use Rattle.tgs_core.specs.Grants.{Grant, granted_record, grant_in}
 use Rattle.tgs_core.specs.Verdicts.{verdict}
 
--- a ticket can be made of the record of a grant
+-- a ticket can be made of the record of what is granted to a request that no rule denies
 abbrev pub GrantsAreSound : Type 0
 GrantsAreSound =
     (dir : DirectoryValue) (now : Moment) (bytes block : List ℕ) (grant : Grant) → IsDirectory dir → IsBytes bytes → IsBytes block → length block ≡ 64
-    → grant_in dir now bytes ≡ Some grant → IsSound (granted_record grant block)
+    → verdict dir now bytes ≡ None → grant_in dir now bytes ≡ Some grant → IsSound (granted_record grant block)
 
 -- where no rule denies a request, something is granted to it
 abbrev pub GrantsAreGiven : Type 0

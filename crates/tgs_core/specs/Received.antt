@@ -8,6 +8,7 @@ use Rattle.krb_messages.specs.KdcReq.{kdc_req}
 use Rattle.as_core.specs.AsRequests.{extra_tickets}
 use Rattle.as_core.specs.Stamps.{items_of}
 use Rattle.ticket_codec.specs.Made.{IsTicketName}
+use Rattle.proxy_requests.specs.Evidences.{tickets_of}
 
 -- it can be written, its realm and the server that it names have the forms of names, its padata are octets, and what it holds is
 -- short: a message that can be written has at most three times as many bytes as a request may have
@@ -19,3 +20,5 @@ pub record IsReceived (message : KdcReq) : Type 0 where
   pub short : AllByRecursion (λ item. length item.padata_value ≤ 393216) (items_of message.padata)
   pub octets : AllByRecursion (λ item. IsBytes item.padata_value) (items_of message.padata)
   pub tickets : extra_tickets message.req_body.additional_tickets < 2 ^ 32
+  pub sealed : AllByRecursion (λ ticket. length ticket.sealed.cipher < 2 ^ 32) (tickets_of message.req_body.additional_tickets)
+  pub sealed_octets : AllByRecursion (λ ticket. IsBytes ticket.sealed.cipher) (tickets_of message.req_body.additional_tickets)

@@ -20,10 +20,9 @@ use Rattle.s4u_padata.specs.X509User.{x509_user}
 use Rattle.kdc_records.specs.declared.ticket_rec.TicketRec.{TicketRec}
 use Rattle.kdc_records.specs.Bits.{has_bit}
 use Rattle.dir_records.specs.declared.records.Account.{Account as AccountRec}
-use Rattle.dir_records.specs.declared.records.KeyRec.{KeyRec}
 use Rattle.ticket_codec.specs.Made.{ticket_of}
 use Rattle.tgs_core.specs.declared.reply_key.ReplyKey.{ReplyKey}
-use Rattle.tgs_core.specs.Grants.{ByAccount, ByHeader, ForUser, Grant, Grounds, granted_record, reply_confounder, ticket_confounder}
+use Rattle.tgs_core.specs.Grants.{ByAccount, ByEvidence, ByHeader, ForHeadersUser, ForUser, Grant, Grounds, granted_record, reply_confounder, ticket_confounder}
 
 -- PA-ETYPE-INFO2 of an account's key: its type and salt (RFC 4120, section 5.2.7.5)
 abbrev pub key_entry : AccountRec → EtypeInfo2Entry
@@ -42,20 +41,26 @@ tgs_key session (Some subkey) = record { key = subkey; usage = 9; version = None
 -- with the key of the account that asks, or a key that the header brings
 abbrev pub reply_key : Grounds → ReplyKey
 reply_key (ByAccount account) = record { key = account.key.key; usage = 3; version = Some account.key.version }
-reply_key (ByHeader shown) = tgs_key shown.session shown.subkey
-reply_key (ForUser shown account asked) = tgs_key shown.session shown.subkey
+reply_key (ByHeader shown) = tgs_key shown.part.key shown.subkey
+reply_key (ForUser shown account asked) = tgs_key shown.part.key shown.subkey
+reply_key (ForHeadersUser shown asked) = tgs_key shown.part.key shown.subkey
+reply_key (ByEvidence shown evidence) = tgs_key shown.part.key shown.subkey
 
 -- the tag of what is sealed: EncASRepPart or EncTGSRepPart
 abbrev pub part_tag : Grounds → ℕ
 part_tag (ByAccount account) = 0x79
 part_tag (ByHeader shown) = 0x7a
 part_tag (ForUser shown account asked) = 0x7a
+part_tag (ForHeadersUser shown asked) = 0x7a
+part_tag (ByEvidence shown evidence) = 0x7a
 
 -- msg-type of an AS-REP or a TGS-REP
 abbrev pub reply_type : Grounds → ℤ
 reply_type (ByAccount account) = pos 11
 reply_type (ByHeader shown) = pos 13
 reply_type (ForUser shown account asked) = pos 13
+reply_type (ForHeadersUser shown asked) = pos 13
+reply_type (ByEvidence shown evidence) = pos 13
 
 -- the usage of the checksum of padata that are echoed: 27 where the option 0x20000000 is set (MS-SFU, section 2.2.2)
 abbrev pub echo_usage : X509User → ℕ
@@ -77,7 +82,9 @@ echoes key (Some asked) = Some (echo_padata key asked ∷ [])
 abbrev pub reply_padata : Grounds → Option (List PaData)
 reply_padata (ByAccount account) = Some (key_info account ∷ [])
 reply_padata (ByHeader shown) = None
-reply_padata (ForUser shown account asked) = echoes (tgs_key shown.session shown.subkey).key asked
+reply_padata (ForUser shown account asked) = echoes (tgs_key shown.part.key shown.subkey).key asked
+reply_padata (ForHeadersUser shown asked) = echoes (tgs_key shown.part.key shown.subkey).key asked
+reply_padata (ByEvidence shown evidence) = None
 
 -- the ticket
 abbrev pub ticket_made : Grant → List ℕ → Ticket

@@ -1,8 +1,9 @@
 -- The verdict on a request: the first rule that fails.
-use Rattle.std.specs.Prelude.{◌≡◌, ℕ, Bool, List, [], ◌∷◌, ◌++◌, true, Option, None, Some, is_some}
+use Rattle.std.specs.Prelude.{◌≡◌, ℕ, Bool, List, [], ◌++◌, true, Option, None, Some, is_some}
 use Rattle.kdc_prelude.specs.Options.{holds_of}
 use Rattle.kdc_prelude.specs.Verdicts.{first_failing}
 use Rattle.krb_names.specs.declared.moment.Moment.{Moment}
+use Rattle.kdc_records.specs.declared.decision.Aim.{Aim}
 use Rattle.kdc_records.specs.declared.rule.Rule.{Rule}
 use Rattle.kdc_records.specs.declared.ticket_rec.TicketRec.{TicketRec}
 use Rattle.kdc_records.specs.declared.wish.Branch.{Branch}
@@ -14,7 +15,10 @@ use Rattle.s4u_rules.specs.Granted.{EndsLater, HeaderGrants, SelfGrants}
 use Rattle.s4u_rules.specs.Headers.{Shown}
 use Rattle.s4u_rules.specs.SelfRules.{self_rules}
 use Rattle.s4u_rules.specs.SelfRules as selves
-use Rattle.s4u_rules.specs.TgsRules.{header_rules, ordinary_rules}
+use Rattle.s4u_rules.specs.TgsRules.{aim_of, header_rules, ordinary_rules}
+use Rattle.proxy_rules.specs.ProxyRules.{ProxyGrants, proxy_rules}
+use Rattle.proxy_requests.specs.declared.evidence.Evidence.{Evidence}
+use Rattle.proxy_requests.specs.Evidences.{evidence_in, evidence_reading_rules, evidence_seen_of}
 use Rattle.tgs_requests.specs.declared.header.Header.{Header}
 use Rattle.tgs_requests.specs.Askings.{branch_of}
 use Rattle.tgs_requests.specs.Headers.{header_in, reading_rules, record_in, shown_header}
@@ -33,12 +37,29 @@ abbrev pub self_rows : DirectoryValue → Moment → Request → Option TicketRe
 self_rows dir now request None = []
 self_rows dir now request (Some rec) = self_rules dir request.realm now request.wish rec
 
--- of a branch, behind those of the header; S4U2proxy has none yet, since G18 denies it
+-- of S4U2proxy, on the header's record, the evidence's, and what is aimed at: P6 to P12 and T1
+abbrev pub aimed_rows : DirectoryValue → Moment → Request → TicketRec → Evidence → Option Aim → List (Rule × Bool)
+aimed_rows dir now request rec evidence None = []
+aimed_rows dir now request rec evidence (Some aim) = proxy_rules dir request.realm now request.wish rec aim (evidence_seen_of evidence)
+
+-- of the evidence, where it shows a record; where none does, one of P1 to P5 denies
+abbrev pub evidence_rows : DirectoryValue → Moment → Request → TicketRec → Option Evidence → List (Rule × Bool)
+evidence_rows dir now request rec None = []
+evidence_rows dir now request rec (Some evidence) = aimed_rows dir now request rec evidence (aim_of dir request.realm request.wish)
+
+-- of S4U2proxy, on the header's record: P1 to P12 and T1
+abbrev pub proxy_rows : DirectoryValue → Moment → Request → Option TicketRec → List (Rule × Bool)
+proxy_rows dir now request None = []
+proxy_rows dir now request (Some rec) =
+    evidence_reading_rules dir request.realm request.message rec
+    ++ evidence_rows dir now request rec (evidence_in dir request.realm request.message rec)
+
+-- of a branch, behind those of the header
 abbrev pub branch_rows : DirectoryValue → Moment → Request → Header → Branch → List (Rule × Bool)
 branch_rows dir now request header Initial = []
 branch_rows dir now request header Ordinary = ordinary_rows dir now request (record_in header)
 branch_rows dir now request header SelfTicket = user_rules header request.message ++ self_rows dir now request (record_in header)
-branch_rows dir now request header Proxy = []
+branch_rows dir now request header Proxy = proxy_rows dir now request (record_in header)
 
 -- of what was opened: G9 to G22, and those of the branch; where nothing was, one of G1 to G5 denies
 abbrev pub opened_rows : DirectoryValue → Moment → Request → Branch → Option Header → List (Rule × Bool)
@@ -100,3 +121,11 @@ pub record SelfTicketGrants (dir : DirectoryValue) (now : Moment) (request : Req
   pub kept : HeaderKept dir now request
   pub named : first_failing (user_rules kept.header request.message) ≡ None
   pub granted : SelfGrants dir request.realm now request.wish kept.rec selves.Shown
+
+-- none of those of S4U2proxy: the evidence shows a record, P1 to P5 hold, and a fact for each of the others
+pub record ProxyTicketGrants (dir : DirectoryValue) (now : Moment) (request : Request) : Type 0 where
+  pub kept : HeaderKept dir now request
+  pub evidence : Evidence
+  pub found : evidence_in dir request.realm request.message kept.rec ≡ Some evidence
+  pub reading : first_failing (evidence_reading_rules dir request.realm request.message kept.rec) ≡ None
+  pub granted : ProxyGrants dir request.realm now request.wish kept.rec kept.granted.aim (evidence_seen_of evidence)

@@ -1,11 +1,13 @@
 //! What a granted request is given.
-ghost use Rattle.std.specs.Prelude.{◌≡◌, ◌<◌, ◌≤◌, ◌^◌, IfOk, Some, length};
+ghost use Rattle.std.specs.Prelude.{◌≡◌, ◌<◌, ◌≤◌, ◌^◌, IfOk, Some, length, slice_get};
+ghost use Rattle.krb_names.specs.declared.principal.Principal.{Principal};
+ghost use Rattle.dir_records.specs.declared.records.RealmRec.{RealmRec};
 ghost use Rattle.der_core.specs.Laws.{IsBytes};
 ghost use Rattle.krb_messages.specs.KdcReq.{kdc_req};
 ghost use Rattle.dir_core.specs.Lookups.{realm_named};
 ghost use Rattle.ticket_parts.specs.Sound.{IsSound};
 ghost use Rattle.tgs_core.specs.GrantViews.{grounds_seen};
-ghost use Rattle.tgs_core.specs.Grants.{IsGrant, IsGrounds, grant_with, granted_record};
+ghost use Rattle.tgs_core.specs.Grants.{IsGrant, IsGrantable, IsGrounds, grant_with, granted_record};
 ghost use Rattle.tgs_core.specs.Requests.{request_to};
 
 use crate::grounds::GroundsView;
@@ -27,6 +29,8 @@ pub(crate) struct GrantView<'a> {
     /// The realm's index.
     at: u32,
     pub(crate) req: &'a KdcReq,
+    /// The server that is asked for.
+    pub(crate) asked: &'a Principal,
     pub(crate) server: Principal,
     pub(crate) terms: Terms,
     pub(crate) held: Holding,
@@ -68,6 +72,7 @@ pub(crate) fn find_grant<'a>(
     requires known { realm_named dir.now req.now.req_body.realm ≡ Some realm }
     requires read { kdc_req.Fits req.now }
     requires grounds { IsGrounds (grounds_seen grounds) }
+    requires grantable { (of : RealmRec) (server : Principal) → slice_get dir.now.realms realm ≡ Some of → req.now.req_body.sname ≡ Some server → IsGrantable of server terms (grounds_seen grounds) }
     ensures { IfOk result (λ found. found ≡ grant_with dir.now (request_to req.now realm) (grounds_seen grounds.entry) terms) }
 {
     let Some(server) = &req.req_body.sname else {
@@ -84,6 +89,7 @@ pub(crate) fn find_grant<'a>(
         realm: of,
         at: realm,
         req,
+        asked: server,
         server: ticket_name(alloc, of, server, terms.aim)?,
         terms,
         held,
@@ -99,15 +105,15 @@ impl<'a> GrantView<'a> {
     {
         Ok(TicketRec {
             holder: self.held.holder.try_clone(alloc)?,
-            client: self.grounds.client(alloc, self.realm)?,
+            client: self.grounds.client(alloc, self.realm, self.terms.aim)?,
             subject: self.grounds.subject(alloc, self.realm)?,
             flags: self.terms.flags,
             session: session_key(self.terms.session, random),
             auth: self.grounds.auth(&self.terms),
             start: self.terms.start,
             end: self.terms.end,
-            transited: self.grounds.transited(alloc)?,
-            delegation: None,
+            transited: self.grounds.transited(alloc, &self.terms)?,
+            delegation: self.grounds.delegation(alloc, self.realm, self.asked)?,
         })
     }
 

@@ -36,7 +36,7 @@ pub(crate) struct ReplyKey {
 
 /// That of a TGS-REQ: the subkey, or else the header's session key.
 pub(crate) fn tgs_key(shown: &PresentedView) -> ReplyKey
-    ensures { result ≡ tgs_key shown.now.session shown.now.subkey }
+    ensures { result ≡ tgs_key shown.now.part.now.key shown.now.subkey }
 {
     match shown.subkey {
         Some(key) => ReplyKey {
@@ -45,7 +45,7 @@ pub(crate) fn tgs_key(shown: &PresentedView) -> ReplyKey
             version: None,
         },
         None => ReplyKey {
-            key: shown.session,
+            key: shown.part.key,
             usage: TGS_REP_SESSION_USAGE,
             version: None,
         },
@@ -63,7 +63,10 @@ impl<'a> GroundsView<'a> {
                 usage: AS_REP_USAGE,
                 version: Some(account.key.version),
             },
-            GroundsView::ByHeader(shown) | GroundsView::ForUser(shown, _, _) => tgs_key(shown),
+            GroundsView::ByHeader(shown)
+            | GroundsView::ForUser(shown, _, _)
+            | GroundsView::ForHeadersUser(shown, _)
+            | GroundsView::ByEvidence(shown, _) => tgs_key(shown),
         }
     }
 
@@ -73,7 +76,7 @@ impl<'a> GroundsView<'a> {
     {
         match self {
             GroundsView::ByAccount(_) => AS_REP_PART,
-            GroundsView::ByHeader(_) | GroundsView::ForUser(_, _, _) => TGS_REP_PART,
+            _ => TGS_REP_PART,
         }
     }
 
@@ -83,7 +86,7 @@ impl<'a> GroundsView<'a> {
     {
         match self {
             GroundsView::ByAccount(_) => KRB_AS_REP,
-            GroundsView::ByHeader(_) | GroundsView::ForUser(_, _, _) => KRB_TGS_REP,
+            _ => KRB_TGS_REP,
         }
     }
 }

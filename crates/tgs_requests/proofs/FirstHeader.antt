@@ -1,12 +1,11 @@
 -- The rule that is told of a header is the first that fails.
-use Rattle.std.proofs.Common.{◌≡◌, ℕ, ◌&&◌, ◌++◌, ◌∙◌, Bool, true, false, cond, List, [], ◌∷◌, Option, Some, None, Result, Ok, Err, refl, sym, ap}
+use Rattle.std.proofs.Common.{◌≡◌, ℕ, ◌++◌, ◌∙◌, Bool, true, false, List, [], ◌∷◌, Option, Some, None, Result, Ok, Err, refl, sym, ap}
 use Rattle.std.specs.Prelude.{IfErr, IfOk, is_some, option_and_then, option_map}
 use Rattle.kdc_prelude.specs.Answers.{Answers, or_fault}
 use Rattle.kdc_prelude.specs.Options.{holds_of}
 use Rattle.kdc_prelude.specs.Results.{◌>>=◌}
 use Rattle.kdc_prelude.specs.Verdicts.{first_failing}
 use Rattle.krb_tickets.specs.declared.enc_ticket_part.EncTicketPart.{EncTicketPart}
-use Rattle.krb_tickets.specs.declared.encrypted_data.EncryptedData.{EncryptedData}
 use Rattle.krb_tickets.specs.declared.ticket.Ticket.{Ticket}
 use Rattle.krb_messages.specs.declared.ap_req.ApReq.{ApReq}
 use Rattle.krb_messages.specs.declared.authenticator.Authenticator.{Authenticator}
@@ -16,18 +15,16 @@ use Rattle.kdc_records.specs.declared.rule.Rule.TheVariants.{G1, G2, G3, G4, G5,
 use Rattle.dir_records.specs.DirectoryValue.{DirectoryValue}
 use Rattle.ticket_codec.specs.declared.fault.ShowFault.{ShowFault}
 use Rattle.ticket_codec.specs.declared.fault.ShowFault.TheVariants.{Deny, NoMemory}
-use Rattle.ticket_codec.specs.declared.holding.Holding.{Holding}
 use Rattle.ticket_codec.specs.declared.opening.Opened.{Opened}
 use Rattle.ticket_codec.specs.declared.role.Role.TheVariants.{Header as AsHeader}
 use Rattle.ticket_codec.specs.Denied.{denied}
 use Rattle.ticket_codec.specs.Opening.{opened_with, unsealed}
-use Rattle.ticket_codec.specs.Roles.{holding}
 use Rattle.ticket_codec.specs.Rules.{header_is_for_this_realm, header_key_fits, header_opens, opening_rules, refusal_of}
 use Rattle.ticket_codec.proofs.FirstRules.{first_unsealed}
 use Rattle.ticket_codec.proofs.Steps.{Opens, unsealed_opens}
 use Rattle.tgs_requests.specs.declared.header.Header.{Header}
-use Rattle.tgs_requests.specs.Headers.{ap_req_of, authenticator_in, body_is_covered, client_is_the_tickets, header_by, header_in, header_is_local, header_of, header_with, is_issued_here, of_header, reading_rules, sum_is_keyed, ticket_opened}
-use Rattle.tgs_requests.specs.HeaderSteps.{auth_rules, authenticated, header_read, IsDenial, opened_here, unless_denied}
+use Rattle.tgs_requests.specs.Headers.{ap_req_of, authenticator_in, body_is_covered, client_is_the_tickets, header_by, header_in, header_of, header_with, of_header, reading_rules, sum_is_keyed, ticket_opened}
+use Rattle.tgs_requests.specs.HeaderSteps.{auth_rules, authenticated, header_read, IsDenial, unless_denied}
 
 -- ---- the authenticator
 
@@ -80,12 +77,9 @@ opened_is dir at ticket opened h =
     let o : Opens dir at AsHeader ticket opened = unsealed_opens dir at AsHeader ticket opened h in
     ap (option_and_then (opened_with ticket)) o.found ∙ o.opens
 
--- what is told of an AP-REQ whose ticket was issued here or not, and opens or not
+-- what is told of an AP-REQ whose ticket opens or not
 abbrev pub after_opening : DirectoryValue → ℕ → List ℕ → ApReq → Result Opened Rule → Result Header Rule
 after_opening dir at body ap opening = opening >>= λ opened. authenticated body opened.part ap.authenticator >>= λ auth. Ok (header_with dir at opened auth)
-
-abbrev ticket_rows : DirectoryValue → ℕ → Bool → Ticket → List (Rule × Bool)
-ticket_rows dir at here ticket = (G2, here && header_is_for_this_realm dir at ticket) ∷ (G3, header_key_fits dir at ticket) ∷ (G4, header_opens dir at ticket) ∷ []
 
 first_after : (dir : DirectoryValue) (at : ℕ) (body : List ℕ) (ap_req : ApReq) (r : Result Opened Rule) → unsealed dir at AsHeader ap_req.ticket ≡ r
     → refusal_of (after_opening dir at body ap_req r) ≡ first_failing (opening_rules dir at AsHeader ap_req.ticket ++ auth_rows body (header_of dir at ap_req))
@@ -97,11 +91,6 @@ first_after dir at body ap_req (Ok opened) h =
     ∙ ap (λ (o : Option Header). first_failing (auth_rows body o)) (sym found)
     ∙ failing_behind (opening_rules dir at AsHeader ap_req.ticket) (auth_rows body (header_of dir at ap_req)) (ap refusal_of (sym h) ∙ first_unsealed dir at AsHeader ap_req.ticket)
 
-first_opened : (dir : DirectoryValue) (at : ℕ) (body : List ℕ) (ap_req : ApReq) (here : Bool)
-    → refusal_of (after_opening dir at body ap_req (cond here (unsealed dir at AsHeader ap_req.ticket) (Err G2))) ≡ first_failing (ticket_rows dir at here ap_req.ticket ++ auth_rows body (header_of dir at ap_req))
-first_opened dir at body ap_req true = first_after dir at body ap_req (unsealed dir at AsHeader ap_req.ticket) refl
-first_opened dir at body ap_req false = refl
-
 header_after : (dir : DirectoryValue) (at : ℕ) (body : List ℕ) (ap_req : ApReq) (header : Header) (r : Result Opened Rule) → unsealed dir at AsHeader ap_req.ticket ≡ r
     → after_opening dir at body ap_req r ≡ Ok header → header_of dir at ap_req ≡ Some header
 header_after dir at body ap_req header (Err rule) e h = absurd (cc)
@@ -109,31 +98,26 @@ header_after dir at body ap_req header (Ok opened) e h =
     ap (option_and_then (header_by dir at ap_req.authenticator)) (opened_is dir at ap_req.ticket opened e)
     ∙ header_judged dir at body opened (authenticator_in opened.part.key ap_req.authenticator) header h
 
-header_opened : (dir : DirectoryValue) (at : ℕ) (body : List ℕ) (ap_req : ApReq) (header : Header) (here : Bool)
-    → after_opening dir at body ap_req (cond here (unsealed dir at AsHeader ap_req.ticket) (Err G2)) ≡ Ok header → header_of dir at ap_req ≡ Some header
-header_opened dir at body ap_req header true h = header_after dir at body ap_req header (unsealed dir at AsHeader ap_req.ticket) refl h
-header_opened dir at body ap_req header false h = absurd (cc)
-
 -- ---- the AP-REQ
 
 abbrev told_of : DirectoryValue → ℕ → List ℕ → Option ApReq → Result Header Rule
-told_of dir at body found = or_fault G1 found >>= λ ap. after_opening dir at body ap (opened_here dir at ap.ticket)
+told_of dir at body found = or_fault G1 found >>= λ ap. after_opening dir at body ap (unsealed dir at AsHeader ap.ticket)
 
 abbrev all_rows : DirectoryValue → ℕ → List ℕ → Option ApReq → List (Rule × Bool)
 all_rows dir at body found =
     (G1, is_some found)
-    ∷ (G2, holds_of (header_is_local dir at) found)
+    ∷ (G2, holds_of (λ ap. header_is_for_this_realm dir at ap.ticket) found)
     ∷ (G3, holds_of (λ ap. header_key_fits dir at ap.ticket) found)
     ∷ (G4, holds_of (λ ap. header_opens dir at ap.ticket) found)
     ∷ auth_rows body (option_and_then (header_of dir at) found)
 
 first_told : (dir : DirectoryValue) (at : ℕ) (body : List ℕ) (found : Option ApReq) → refusal_of (told_of dir at body found) ≡ first_failing (all_rows dir at body found)
 first_told dir at body None = refl
-first_told dir at body (Some ap_req) = first_opened dir at body ap_req (is_issued_here dir at ap_req.ticket)
+first_told dir at body (Some ap_req) = first_after dir at body ap_req (unsealed dir at AsHeader ap_req.ticket) refl
 
 header_told : (dir : DirectoryValue) (at : ℕ) (body : List ℕ) (found : Option ApReq) (header : Header) → told_of dir at body found ≡ Ok header → option_and_then (header_of dir at) found ≡ Some header
 header_told dir at body None header h = absurd (cc)
-header_told dir at body (Some ap_req) header h = header_opened dir at body ap_req header (is_issued_here dir at ap_req.ticket) h
+header_told dir at body (Some ap_req) header h = header_after dir at body ap_req header (unsealed dir at AsHeader ap_req.ticket) refl h
 
 first_read : (dir : DirectoryValue) (at : ℕ) (message : KdcReq) → refusal_of (header_read dir at message) ≡ first_failing (reading_rules dir at message)
 unfolding header_read header_in

@@ -1,5 +1,5 @@
 -- What is sealed in an AP-REQ is no longer than the bytes that it was read from, and a user-id than it is written.
-use Rattle.std.proofs.Common.{◌≡◌, ℕ, ◌+◌, ◌*◌, ◌<◌, ◌≤◌, ◌^◌, pos, List, [], ◌++◌, length, Option, None, Some, subst, ap, length-append, arith}
+use Rattle.std.proofs.Common.{ℕ, ◌*◌, ◌<◌, ◌≤◌, ◌^◌, pos, List, [], ◌++◌, length, Option, None, Some, subst, ap, length-append, arith}
 use Rattle.std.specs.Prelude.{IfOk, IfSome, Result, Ok, Err}
 use Rattle.std.specs.List.{AllByRecursion}
 use Rattle.der_core.specs.Codec.{Codec}

@@ -1,5 +1,5 @@
 -- How a request asks for a ticket (RFC 4120, section 5.4.1; MS-SFU, section 3.2.5), and what a TGS-REQ asks for.
-use Rattle.std.specs.Prelude.{◌≤◌, ◌*◌, ℕ, ℤ, ◌&&◌, ◌||◌, Bool, true, false, List, [], ◌∷◌, filter, length, Option, None, Some, option_map, Result, Ok, Err, if◌then◌else◌, IfSome}
+use Rattle.std.specs.Prelude.{◌≤◌, ◌*◌, ℕ, ℤ, ◌&&◌, ◌||◌, Bool, true, List, [], ◌∷◌, filter, length, Option, None, Some, option_map, Result, Ok, Err, if◌then◌else◌, IfSome}
 use Rattle.std.specs.List.{AllByRecursion, list_any}
 use Rattle.std.specs.Ordering.{int_eq}
 use Rattle.kdc_prelude.specs.Options.{holds_of}

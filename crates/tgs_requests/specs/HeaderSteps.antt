@@ -1,27 +1,21 @@
 -- The header of a TGS-REQ, read step by step: the first step that fails tells its rule.
-use Rattle.std.specs.Prelude.{◌≡◌, ℕ, Bool, List, [], ◌∷◌, Option, None, Some, Result, Ok, Err, if◌then◌else◌}
+use Rattle.std.specs.Prelude.{◌≡◌, ℕ, Bool, List, [], ◌∷◌, Option, None, Some, Result, Ok, Err}
 use Rattle.kdc_prelude.specs.Answers.{or_fault}
 use Rattle.kdc_prelude.specs.Results.{◌>>=◌}
 use Rattle.kdc_prelude.specs.Verdicts.{first_failing}
 use Rattle.krb_tickets.specs.declared.enc_ticket_part.EncTicketPart.{EncTicketPart}
 use Rattle.krb_tickets.specs.declared.encrypted_data.EncryptedData.{EncryptedData}
-use Rattle.krb_tickets.specs.declared.ticket.Ticket.{Ticket}
 use Rattle.krb_messages.specs.declared.authenticator.Authenticator.{Authenticator}
 use Rattle.krb_messages.specs.declared.kdc_req.KdcReq.{KdcReq}
 use Rattle.kdc_records.specs.declared.rule.Rule.{Rule}
-use Rattle.kdc_records.specs.declared.rule.Rule.TheVariants.{G1, G2, G5, G6, G7, G8}
+use Rattle.kdc_records.specs.declared.rule.Rule.TheVariants.{G1, G5, G6, G7, G8}
 use Rattle.dir_records.specs.DirectoryValue.{DirectoryValue}
 use Rattle.ticket_codec.specs.declared.fault.ShowFault.{ShowFault}
 use Rattle.ticket_codec.specs.declared.fault.ShowFault.TheVariants.{Deny, NoMemory}
-use Rattle.ticket_codec.specs.declared.opening.Opened.{Opened}
 use Rattle.ticket_codec.specs.declared.role.Role.TheVariants.{Header as AsHeader}
 use Rattle.ticket_codec.specs.Opening.{unsealed}
 use Rattle.tgs_requests.specs.declared.header.Header.{Header}
-use Rattle.tgs_requests.specs.Headers.{ap_req_of, authenticator_in, body_is_covered, client_is_the_tickets, header_with, is_issued_here, sum_is_keyed}
-
--- the ticket, where this realm issued it, opened; or the first of G2 to G4 that fails
-abbrev pub opened_here : DirectoryValue → ℕ → Ticket → Result Opened Rule
-opened_here dir at ticket = if is_issued_here dir at ticket then unsealed dir at AsHeader ticket else Err G2
+use Rattle.tgs_requests.specs.Headers.{ap_req_of, authenticator_in, body_is_covered, client_is_the_tickets, header_with, sum_is_keyed}
 
 -- of an authenticator that opened, by the body of the request
 abbrev pub auth_rules : List ℕ → EncTicketPart → Authenticator → List (Rule × Bool)
@@ -41,7 +35,7 @@ authenticated body part sealed =
 unfoldable pub header_read : DirectoryValue → ℕ → KdcReq → Result Header Rule
 header_read dir at message =
     or_fault G1 (ap_req_of message) >>= λ ap.
-    opened_here dir at ap.ticket >>= λ opened.
+    unsealed dir at AsHeader ap.ticket >>= λ opened.
     authenticated message.body_bytes opened.part ap.authenticator >>= λ auth.
     Ok (header_with dir at opened auth)
 

@@ -1,5 +1,5 @@
 -- The header of a TGS-REQ (RFC 4120, sections 3.3.2, 3.3.3 and 5.5.1): its ticket-granting ticket and authenticator.
-use Rattle.std.specs.Prelude.{ℕ, ℤ, ◌+◌, ◌*◌, ◌&&◌, nat_abs, Bool, List, [], ◌∷◌, filter, Option, None, Some, is_some, option_and_then, option_map, slice_get, unwrap_or, if◌then◌else◌, IfSome}
+use Rattle.std.specs.Prelude.{ℕ, ℤ, ◌+◌, ◌*◌, nat_abs, Bool, List, [], ◌∷◌, filter, Option, None, Some, is_some, option_and_then, option_map, unwrap_or, if◌then◌else◌, IfSome}
 use Rattle.kdc_prelude.specs.Options.{holds_of}
 use Rattle.kdc_prelude.specs.Steps.{◌>>=◌}
 use Rattle.kdc_prelude.specs.Texts.{same_text}
@@ -83,14 +83,6 @@ pub record IsHeader (header : Header) : Type 0 where
 
 -- ---- the rules
 
--- the realm at an index issued the ticket
-abbrev pub is_issued_here : DirectoryValue → ℕ → Ticket → Bool
-is_issued_here dir at ticket = holds_of (λ realm. same_text ticket.realm realm.name) (slice_get dir.realms at)
-
--- G2: the header is a ticket-granting ticket of this realm that it issued (RFC 4120, section 3.3.2; other realms' are not taken yet)
-abbrev pub header_is_local : DirectoryValue → ℕ → ApReq → Bool
-header_is_local dir at ap = is_issued_here dir at ap.ticket && header_is_for_this_realm dir at ap.ticket
-
 -- G6: the authenticator's client is the ticket's, whatever the kind of its name (RFC 4120, section 3.2.3)
 abbrev pub client_is_the_tickets : EncTicketPart → Authenticator → Bool
 client_is_the_tickets part auth = same_principal auth.cname part.client
@@ -119,7 +111,7 @@ of_header test header = test header.opened.part header.auth
 abbrev pub reading_rules : DirectoryValue → ℕ → KdcReq → List (Rule × Bool)
 reading_rules dir at message =
     (G1, is_some (ap_req_of message))
-    ∷ (G2, holds_of (header_is_local dir at) (ap_req_of message))
+    ∷ (G2, holds_of (λ ap. header_is_for_this_realm dir at ap.ticket) (ap_req_of message))
     ∷ (G3, holds_of (λ ap. header_key_fits dir at ap.ticket) (ap_req_of message))
     ∷ (G4, holds_of (λ ap. header_opens dir at ap.ticket) (ap_req_of message))
     ∷ (G5, is_some (header_in dir at message))

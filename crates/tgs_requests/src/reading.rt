@@ -1,14 +1,12 @@
 //! Reading the header of a TGS-REQ (RFC 4120, section 3.3.2).
-ghost use Rattle.std.specs.Prelude.{◌≡◌, ◌+◌, ◌<◌, ◌≤◌, ◌^◌, IfErr, IfOk, IfSome, None, Some, length};
+ghost use Rattle.std.specs.Prelude.{◌≡◌, ◌<◌, ◌^◌, IfErr, IfOk, IfSome, None, Some, length};
 ghost use Rattle.std.specs.List.{AllByRecursion};
 ghost use Rattle.kdc_prelude.specs.Answers.{Answers};
 ghost use Rattle.kdc_prelude.specs.Verdicts.{first_failing};
-ghost use Rattle.krb_tickets.specs.EncTicketPart.{enc_ticket_part};
 ghost use Rattle.as_core.specs.Stamps.{items_of};
-ghost use Rattle.ticket_laws.specs.Writable.{IsWritablePart};
 ghost use Rattle.ticket_codec.specs.Denied.{denied};
-ghost use Rattle.tgs_requests.specs.Headers.{ap_req_in, ap_req_of, header_in, IsHeader, is_issued_here, reading_rules};
-ghost use Rattle.tgs_requests.specs.HeaderSteps.{header_read, IsDenial, opened_here};
+ghost use Rattle.tgs_requests.specs.Headers.{ap_req_in, ap_req_of, header_in, IsHeader, reading_rules};
+ghost use Rattle.tgs_requests.specs.HeaderSteps.{header_read, IsDenial};
 
 use crate::authentication::authenticate;
 use crate::header::Header;
@@ -16,9 +14,8 @@ use crate::padata::{items_of, only_of, read_whole};
 use dir_core::Directory;
 use kdc_records::Rule;
 use krb_messages::{ApReq, KdcReq, PaData};
-use krb_tickets::Ticket;
 use std::alloc::{AllocError, Global};
-use ticket_codec::{Opened, Role, ShowFault, certify, unseal};
+use ticket_codec::{Role, ShowFault, certify, unseal};
 
 /// PA-TGS-REQ, a padata-type (RFC 4120, section 7.5.2).
 const PA_TGS_REQ: u16 = 1;
@@ -48,33 +45,6 @@ fn ap_req_of(alloc: Global, message: &KdcReq) -> Result<Option<ApReq>, AllocErro
     }
 }
 
-/// Whether the realm at an index issued the ticket.
-fn is_issued_here(dir: &Directory, realm: u32, ticket: &Ticket) -> bool
-    requires { realm < length dir.now.realms }
-    ensures { result ≡ is_issued_here dir.now realm ticket.now }
-{
-    ticket.realm == dir.realm(realm).name
-}
-
-/// The ticket-granting ticket of a request, opened where this realm issued it.
-fn open_here(
-    alloc: Global,
-    dir: &Directory,
-    realm: u32,
-    ticket: &Ticket,
-) -> Result<Opened, ShowFault>
-    requires realm { realm < length dir.now.realms }
-    requires few { length ticket.now.sealed.cipher < 2 ^ 32 }
-    ensures exact { Answers ShowFault.NoMemory result (denied (opened_here dir.now realm ticket.now)) }
-    ensures writable { IfOk result (λ opened. IsWritablePart opened.part) }
-    ensures short { IfOk result (λ opened. length (enc_ticket_part.spelling opened.part) + 16 < 2 ^ 32) }
-{
-    if !is_issued_here(dir, realm, ticket) {
-        return Err(ShowFault::Deny(Rule::G2));
-    }
-    unseal(alloc, dir, realm, Role::Header, ticket)
-}
-
 /// The header, step by step.
 #[tactic(auto, unfolding(crate::specs::HeaderSteps::header_read))]
 fn read_steps(
@@ -91,7 +61,7 @@ fn read_steps(
     let Some(ap) = ap_req_of(alloc, message)? else {
         return Err(ShowFault::Deny(Rule::G1));
     };
-    let opened = open_here(alloc, dir, realm, &ap.ticket)?;
+    let opened = unseal(alloc, dir, realm, Role::Header, &ap.ticket)?;
     let auth = authenticate(
         alloc,
         message.body_bytes.as_slice(),

@@ -1,4 +1,4 @@
-use Rattle.std.proofs.Common.{◌≡◌, ℕ, ◌<◌, ◌^◌, List, [], ◌∷◌, ◌++◌, length, sym, ◌∙◌, subst, arith}
+use Rattle.std.proofs.Common.{◌≡◌, ◌<◌, ◌^◌, List, [], ◌∷◌, ◌++◌, length, sym, ◌∙◌, subst, arith}
 use Rattle.der_forms.specs.Lists.{sequence_of}
 use Rattle.krb_messages.specs.declared.etype_info2.EtypeInfo2Entry.{EtypeInfo2Entry}
 use Rattle.krb_messages.specs.EtypeInfo2Entry.{etype_info2_entry}

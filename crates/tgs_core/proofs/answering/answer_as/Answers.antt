@@ -1,4 +1,4 @@
-use Rattle.std.proofs.Common.{◌≡◌, ◌∙◌, List, ℕ, None, Some, ap, sym}
+use Rattle.std.proofs.Common.{◌∙◌, List, ℕ, None, Some, ap, sym}
 use Rattle.kdc_records.specs.declared.wish.Branch.TheVariants.{Initial}
 use Rattle.tgs_core.proofs.Openings.{IsOpened, answered_granted, as_denied, as_granted, told_of}
 use Rattle.tgs_core.proofs.answering.answer_as.Goals as goal

@@ -1,6 +1,5 @@
-use Rattle.std.proofs.Common.{◌≡◌, ◌∙◌, List, ℕ, Some}
+use Rattle.std.proofs.Common.{◌≡◌, ◌∙◌, Some}
 use Rattle.std.specs.Option.{option_copied}
-use Rattle.tgs_core.specs.declared.answered.Answered.{Answered}
 use Rattle.tgs_core.proofs.Openings.{answered_denied, denial, told_of}
 use Rattle.tgs_core.proofs.answering.deny.Goals as goal
 

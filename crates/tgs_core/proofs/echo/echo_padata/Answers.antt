@@ -1,4 +1,4 @@
-use Rattle.std.proofs.Common.{ℕ, ◌<◌, ◌^◌, length, sym, subst, arith}
+use Rattle.std.proofs.Common.{◌<◌, ◌^◌, length, sym, subst, arith}
 use Rattle.s4u_padata.specs.declared.x509_user.X509User.{X509User}
 use Rattle.s4u_padata.specs.X509User.{x509_user}
 use Rattle.tgs_core.proofs.EchoForms.{echo_fits, echo_short}

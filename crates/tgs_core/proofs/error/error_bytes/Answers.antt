@@ -1,8 +1,7 @@
-use Rattle.std.proofs.Common.{◌≤◌, ◌<◌, ◌^◌, length, subst, sym, arith}
+use Rattle.std.proofs.Common.{◌≤◌, length, subst, sym}
 use Rattle.std.specs.Option.{option_copied}
 use Rattle.krb_messages.specs.declared.krb_error.KrbError.{KrbError}
 use Rattle.krb_messages.specs.KrbError.{krb_error}
-use Rattle.tgs_core.specs.Errors.{error_of}
 use Rattle.tgs_core.proofs.WrittenErrors.{written_error_fits, written_error_short}
 use Rattle.tgs_core.proofs.error.error_bytes.Goals as goal
 

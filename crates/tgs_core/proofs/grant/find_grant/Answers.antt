@@ -20,7 +20,7 @@ returns c =
     let holds : aim_holding a.dir.now a.realm a.terms.aim ≡ Some held = sym c.in_ok-held.ensures.exact ∙ c.in-Some-2.is in
     let asked : IsAsked a.dir.now a.req.now a.realm realm c.in-Some.server = record { known = c.requires.known; at = c.realm-of.ensures.found; named = c.in-Some.is } in
     let grant : Principal → Option Grant =
-    λ (name : Principal). Some (record { realm = realm; request = request_to a.req.now a.realm; server = name; terms = a.terms; holding = held; grounds = grounds }) in
+    λ (name : Principal). Some (record { realm = realm; request = request_to a.req.now a.realm; asked = c.in-Some.server; server = name; terms = a.terms; holding = held; grounds = grounds }) in
     ap grant c.in_ok-ticket_name.ensures ∙ grant_found a.dir.now a.req.now a.realm realm c.in-Some.server a.terms held grounds asked holds
 
 pub invariant_of-result : goal.invariant_of-result
@@ -32,7 +32,7 @@ invariant_of-result c =
     let bytes = subst IsBytes c.as_slice.ensures c.bytes_fit.ensures in
     let asked : IsAsked a.dir.now a.req.now a.realm realm c.in-Some.server = record { known = c.requires.known; at = c.realm-of.ensures.found; named = c.in-Some.is } in
     let are : AreTerms a.terms = record { flags = c.terms_fit.ensures.flags; start = c.terms_fit.ensures.start; end = c.terms_fit.ensures.end } in
-    let made = asked_is_grant a.dir.now a.req.now a.realm realm c.in-Some.server a.terms held grounds c.keeps_directory.ensures c.requires.read bytes asked are c.requires.grounds in
+    let made = asked_is_grant a.dir.now a.req.now a.realm realm c.in-Some.server a.terms held grounds c.keeps_directory.ensures c.requires.read bytes asked are c.requires.grounds (c.requires.grantable realm c.in-Some.server asked.at asked.named) in
     let grant : Principal → Grant =
-    λ (name : Principal). record { realm = realm; request = request_to a.req.now a.realm; server = name; terms = a.terms; holding = held; grounds = grounds } in
+    λ (name : Principal). record { realm = realm; request = request_to a.req.now a.realm; asked = c.in-Some.server; server = name; terms = a.terms; holding = held; grounds = grounds } in
     subst (λ (name : Principal). IsGrant (grant name)) (sym c.in_ok-ticket_name.ensures) made

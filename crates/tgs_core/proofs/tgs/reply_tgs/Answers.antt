@@ -1,4 +1,4 @@
-use Rattle.std.proofs.Common.{◌≡◌, ◌∙◌, Option, Some, None, sym, ap}
+use Rattle.std.proofs.Common.{◌≡◌, ◌∙◌, Some, None}
 use Rattle.kdc_prelude.specs.Verdicts.{first_failing}
 use Rattle.tgs_requests.specs.declared.header.Header.{Header}
 use Rattle.tgs_requests.specs.Askings.{tgs_branch}

@@ -1,4 +1,4 @@
-use Rattle.std.proofs.Common.{◌≡◌, ◌∙◌, ◌*◌, ◌≤◌, ◌<◌, ◌^◌, length, Option, None, Some, sym, subst, ap, arith}
+use Rattle.std.proofs.Common.{◌∙◌, ◌*◌, ◌≤◌, ◌<◌, ◌^◌, length, Option, sym, subst, ap, arith}
 use Rattle.std.specs.Prelude.{IfSome}
 use Rattle.std.specs.Option.{option_copied}
 use Rattle.krb_messages.specs.declared.pa_data.PaData.{PaData}

@@ -1,4 +1,4 @@
-use Rattle.std.proofs.Common.{◌≡◌, ℕ, ℤ, ◌<◌, ◌≤◌, ◌^◌, length, to_z, of_z, sym, ap, ◌∙◌, subst}
+use Rattle.std.proofs.Common.{◌≡◌, ℤ, ◌<◌, ◌≤◌, ◌^◌, length, to_z, of_z, sym, ap, ◌∙◌, subst}
 use Rattle.std.specs.Int.{w32}
 use Rattle.krb_tickets.specs.declared.encrypted_data.EncryptedData.{EncryptedData}
 use Rattle.krb_tickets.specs.declared.ticket.Ticket.{Ticket}

@@ -1,4 +1,4 @@
-use Rattle.std.proofs.Common.{◌≡◌, ℕ, List, sym, ◌∙◌}
+use Rattle.std.proofs.Common.{◌≡◌, sym}
 use Rattle.krb_tickets.specs.declared.ticket.Ticket.{Ticket}
 use Rattle.ticket_codec.specs.Made.{ticket_of}
 use Rattle.ticket_parts.proofs.Calls.{if_ok}

@@ -1,0 +1,3 @@
+pub mod EvidenceFound
+pub mod EvidenceTold
+pub mod FirstEvidence
