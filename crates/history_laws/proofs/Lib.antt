@@ -1,4 +1,5 @@
 pub mod Answered
+pub mod CallersHistories
 pub mod Chains
 pub mod EvidenceHolders
 mod Example
@@ -6,10 +7,13 @@ pub mod Granted
 pub mod Grants
 pub mod GrantsOf
 pub mod Histories
+pub mod Impersonating
 pub mod Openings
 pub mod Places
+pub mod ReadReplies
 pub mod Rows
 pub mod RunHistories
+pub mod SealedBytes
 pub mod ShownTickets
 pub mod Steps
 pub mod Traces

@@ -3,9 +3,8 @@ use Rattle.std.proofs.Common.{◌≡◌, ◌∙◌, ℕ, zero, suc, ◌<◌, ◌
 use Rattle.std.specs.Prelude.{slice_get}
 use Rattle.std.specs.List.{AllByRecursion}
 use Rattle.aes_core.specs.Inverses.{AreBytes, IsBlock}
-use Rattle.der_core.specs.Codec.{Codec, whole}
-use Rattle.der_core.specs.CodecLaws.{alone_lawful}
-use Rattle.der_core.specs.Laws.{IsBytes, IsCodec}
+use Rattle.der_core.specs.Codec.{whole}
+use Rattle.der_core.specs.Laws.{IsBytes}
 use Rattle.der_core.specs.Steps.{IsBytes-front, IsBytes-rest}
 use Rattle.std.proofs.lemmas.List.{take-append-drop}
 use Rattle.krb_names.specs.declared.key.Key.{Key}
@@ -15,10 +14,12 @@ use Rattle.krb_crypto.specs.Encryption.{opened, seal}
 use Rattle.krb_tickets.specs.declared.enc_ticket_part.EncTicketPart.{EncTicketPart}
 use Rattle.krb_tickets.specs.EncTicketPart.{enc_ticket_part}
 use Rattle.krb_tickets.specs.Laws.{enc_ticket_part_lawful}
+use Rattle.krb_messages.specs.KdcRep.{kdc_rep}
 use Rattle.kdc_records.specs.declared.decision.Aim.{Aim}
 use Rattle.kdc_records.specs.declared.decision.Aim.TheVariants.{Krbtgt, Hop, Account}
 use Rattle.kdc_records.specs.declared.holder.Holder.{Holder}
 use Rattle.kdc_records.specs.declared.ticket_rec.TicketRec.{TicketRec}
+use Rattle.kdc_records.specs.Parties.{version_of}
 use Rattle.dir_records.specs.declared.records.RealmRec.{RealmRec}
 use Rattle.dir_records.specs.DirectoryValue.{DirectoryValue}
 use Rattle.dir_records.specs.IsDirectory.{IsAccountInRange, IsDirectory, IsKeyInRange, IsRealmInRange, IsTrustInRange}
@@ -34,12 +35,14 @@ use Rattle.ticket_codec.proofs.Sealed.{opened_sealed}
 use Rattle.tgs_core.specs.Grants.{Grant, grant_in, granted_record, ticket_confounder}
 use Rattle.tgs_core.specs.Replies.{reply_of}
 use Rattle.tgs_core.specs.Verdicts.{verdict}
+use Rattle.tgs_core.proofs.GrantedRequests.{granted_in_is_grant}
 use Rattle.kdc_frames.specs.Exchanges.{Exchange}
 use Rattle.history_laws.specs.Entries.{IsAnswered, entry_of}
 use Rattle.history_laws.specs.Openings.{IsOpened, OpensLaw}
 use Rattle.history_laws.proofs.Answered.{reply_granted}
 use Rattle.history_laws.proofs.Grants.{entry_parts, entry_sound}
 use Rattle.history_laws.proofs.GrantsOf.{grant_parts}
+use Rattle.history_laws.proofs.ReadReplies.{reply_reads, whole_spelt}
 use Rattle.history_laws.proofs.Steps.{mapped, one_of, stepped}
 
 -- ---- the key of a holder
@@ -53,21 +56,31 @@ octets_are : (octets : List ℕ) → AllByRecursion (λ (octet : ℕ). octet < 2
 octets_are [] h = tt
 octets_are (octet ∷ octets) h = (h.0, octets_are octets h.1)
 
-held_in : (realm : RealmRec) (aim : Aim) (held : Holding) → IsRealmInRange realm → aim_holding_in realm aim ≡ Some held → IsKeyInRange held.key
-held_in realm Krbtgt held h e = subst (λ (held : Holding). IsKeyInRange held.key) (one_of (krbtgt_holding realm) held e) h.krbtgt
+-- a key of the type, whose version the holder has
+record IsHeld (held : Holding) : Type 0 where
+  key : IsKeyInRange held.key
+  version : version_of held.holder ≡ held.key.version
+
+held_in : (realm : RealmRec) (aim : Aim) (held : Holding) → IsRealmInRange realm → aim_holding_in realm aim ≡ Some held → IsHeld held
+held_in realm Krbtgt held h e = subst IsHeld (one_of (krbtgt_holding realm) held e) (record { key = h.krbtgt; version = refl })
 held_in realm (Hop at) held h e =
     let found = mapped (hop_holding realm) (slice_get realm.trusts at) held e in
-    subst (λ (held : Holding). IsKeyInRange held.key) found.2 (at_index IsTrustInRange realm.trusts at found.0 h.trusts found.1).key
+    subst IsHeld found.2 (record { key = (at_index IsTrustInRange realm.trusts at found.0 h.trusts found.1).key; version = refl })
 held_in realm (Account at) held h e =
     let found = mapped (account_holding realm) (slice_get realm.accounts at) held e in
-    subst (λ (held : Holding). IsKeyInRange held.key) found.2 (at_index IsAccountInRange realm.accounts at found.0 h.accounts found.1).key
+    subst IsHeld found.2 (record { key = (at_index IsAccountInRange realm.accounts at found.0 h.accounts found.1).key; version = refl })
 
-aimed_key : (dir : DirectoryValue) (at : ℕ) (aim : Aim) (held : Holding) → IsDirectory dir → aim_holding dir at aim ≡ Some held → IsKey held.key.key
+aimed : (dir : DirectoryValue) (at : ℕ) (aim : Aim) (held : Holding) → IsDirectory dir → aim_holding dir at aim ≡ Some held → IsHeld held
 unfolding aim_holding
-aimed_key dir at aim held h e =
+aimed dir at aim held h e =
     let realm = stepped (slice_get dir.realms at) (λ (realm : RealmRec). aim_holding_in realm aim) held e in
-    let key = held_in realm.0 aim held (at_index IsRealmInRange dir.realms at realm.0 h.in_range.realms realm.1) realm.2 in
-    (key.size, octets_are held.key.key.raw key.octets)
+    held_in realm.0 aim held (at_index IsRealmInRange dir.realms at realm.0 h.in_range.realms realm.1) realm.2
+
+held_key : (held : Holding) → IsHeld held → IsKey held.key.key
+held_key held h = (h.key.size, octets_are held.key.key.raw h.key.octets)
+
+held_version : (held : Holding) → IsHeld held → version_of held.holder < 2 ^ 32
+held_version held h = let version = h.version in let few = h.key.version in omega (arith, version, few)
 
 -- ---- the confounder
 
@@ -79,9 +92,6 @@ confounder_is block h long =
     (omega (arith, length-take 16 later, length-drop 32 block, long), bytes_below (take 16 later) front)
 
 -- ---- the ticket
-
-whole_spelt : {X : Type 0} (c : Codec X) → IsCodec c → (x : X) → c.Fits x → length (c.spelling x) < 2 ^ 32 → whole c (c.spelling x) ≡ Ok x
-whole_spelt c lawful x fits short = (alone_lawful c lawful).only (record { place = 0; bytes = c.spelling x }) x (lawful.spelt x fits short)
 
 sealed_opens : (t : TicketRec) (key realm_key : Key) (conf : List ℕ) → IsSound t → IsKey key → IsBlock conf
     → opened key 2 (seal key 2 conf (enc_ticket_part.spelling (part t key realm_key))) ≡ Some (enc_ticket_part.spelling (part t key realm_key))
@@ -113,10 +123,15 @@ opened_as exchange grant answered none granted =
     let realm_key : Key = grant.realm.krbtgt.key in
     let parts = grant_parts dir exchange.moment exchange.request grant granted in
     let sound = entry_sound exchange answered grant none granted in
-    let own : IsKey key = aimed_key dir grant.request.realm grant.terms.aim grant.holding answered.directory_is parts.held in
+    let given = granted_in_is_grant dir exchange.moment exchange.request grant answered.directory_is answered.request_is none granted in
+    let held = aimed dir grant.request.realm grant.terms.aim grant.holding answered.directory_is parts.held in
+    let own : IsKey key = held_key grant.holding held in
+    let few : version_of t.holder < 2 ^ 32 = subst (λ (holder : Holder). version_of holder < 2 ^ 32) (sym (holder_is grant block)) (held_version grant.holding held) in
     let confounder : IsBlock (ticket_confounder block) = confounder_is block answered.block_is answered.block_has in
+    let replied = answered.replied ∙ reply_granted dir exchange.moment block exchange.request grant none granted in
     record {
-      replied = answered.replied ∙ reply_granted dir exchange.moment block exchange.request grant none granted;
+      replied = replied;
+      reads_back = ap (whole kdc_rep) replied ∙ reply_reads grant block given sound own few confounder answered.block_has;
       held = parts.held;
       holder = holder_is grant block;
       opens = ap (opened key 2) (cipher_is grant block) ∙ sealed_opens t key realm_key (ticket_confounder block) sound own confounder;

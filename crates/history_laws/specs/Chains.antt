@@ -1,5 +1,5 @@
 -- When an entry unfolds, step by permitted step, to the first grant of its user.
-use Rattle.std.specs.Prelude.{◌≡◌, ℕ, ◌&&◌, Bool, true, false, List, [], ◌∷◌, flat_map, Option, None, Some, option_map, reverse, slice_get, if◌then◌else◌}
+use Rattle.std.specs.Prelude.{◌≡◌, ℕ, ◌&&◌, ◌||◌, Bool, true, false, List, [], ◌∷◌, flat_map, Option, None, Some, option_map, reverse, slice_get, if◌then◌else◌}
 use Rattle.std.specs.List.{AllByRecursion, list_any}
 use Rattle.kdc_prelude.specs.Options.{holds_of}
 use Rattle.krb_names.specs.declared.principal.Principal.{Principal}
@@ -7,6 +7,7 @@ use Rattle.krb_names.specs.SidValue.{SidValue, followed_by}
 use Rattle.kdc_records.specs.declared.decision.Aim.{Aim}
 use Rattle.kdc_records.specs.declared.decision.Aim.TheVariants as aims
 use Rattle.kdc_records.specs.declared.ticket_rec.TicketRec.{TicketRec}
+use Rattle.kdc_records.specs.declared.wish.Branch.{Branch}
 use Rattle.kdc_records.specs.declared.wish.Wish.{Wish}
 use Rattle.kdc_records.specs.Bits.{has_bit}
 use Rattle.kdc_records.specs.Parties.{Account, Krbtgt, Party, Trust, party_of}
@@ -20,9 +21,11 @@ use Rattle.as_core.specs.AsRules.{AsGrants, client_account}
 use Rattle.ticket_parts.specs.Parts.{is_service}
 use Rattle.ticket_parts.specs.Records.{record_of}
 use Rattle.s4u_rules.specs.SelfRules.{is_user_of, server_is_the_requestor, user_fits_header, user_is_enabled, user_is_known, user_is_local, user_record}
-use Rattle.s4u_rules.specs.TgsRules.{is_for_its_client, requestor_is_known}
+use Rattle.s4u_rules.specs.TgsRules.{is_for_its_client, is_self, requestor_is_known}
 use Rattle.proxy_rules.specs.ProxyRules.{ShownEvidence, chain_is_short, delegation_is_allowed, evidence_agrees, evidence_is_reached, evidence_may_be_used, requestor_is_local, requestor_text, user_is_delegable}
+use Rattle.tgs_requests.specs.Askings.{branch_of}
 use Rattle.tgs_core.specs.Grants.{ByAccount, ByEvidence, ByHeader, ForHeadersUser, ForUser, Grounds, Presented, ShownTicket, subject_of_account, ticket_presented}
+use Rattle.tgs_core.specs.Judged.{is_proxy}
 use Rattle.history_laws.specs.Entries.{Entry}
 use Rattle.history_laws.specs.Places.{Place, place, user_line}
 
@@ -68,6 +71,23 @@ is_by_s4u (ByEvidence shown evidence) = true
 -- a service ticket that a service got on behalf of a user
 abbrev pub is_impersonating : Entry → Bool
 is_impersonating entry = is_service entry.ticket.holder && is_by_s4u entry.grant.grounds
+
+-- how the request of an entry asks, and what its ticket is for
+abbrev pub branch_asked : Entry → Branch
+branch_asked entry = branch_of entry.grant.request.message
+
+abbrev pub aim_granted : Entry → Aim
+aim_granted entry = entry.grant.terms.aim
+
+-- an account is aimed at
+abbrev pub is_account : Aim → Bool
+is_account aims.Krbtgt = false
+is_account (aims.Hop at) = false
+is_account (aims.Account at) = true
+
+-- an account is aimed at, and S4U2self or S4U2proxy is asked for
+abbrev pub asks_to_impersonate : Entry → Bool
+asks_to_impersonate entry = is_account (aim_granted entry) && (is_self (branch_asked entry) || is_proxy (branch_asked entry))
 
 -- granted to the account that asks, or by S4U2self for a user of the realm: a line has no entry behind it
 abbrev pub is_root : Grounds → Bool

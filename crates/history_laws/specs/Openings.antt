@@ -11,10 +11,11 @@ use Rattle.tgs_core.specs.Verdicts.{verdict}
 use Rattle.kdc_frames.specs.Exchanges.{Exchange}
 use Rattle.history_laws.specs.Entries.{Entry, IsAnswered, entry_at}
 
--- the ticket in the reply of an exchange opens, under the key that its holder has in the exchange's directory, to the part of the entry, and
--- that part tells the entry's record
+-- the reply of an exchange is that of the entry's grant, and reads as it; the ticket in it opens, under the key that its holder has in the
+-- exchange's directory, to the part of the entry, and that part tells the entry's record
 pub record IsOpened (exchange : Exchange) (entry : Entry) : Type 0 where
   pub replied : exchange.reply ≡ kdc_rep.spelling (reply_of entry.grant exchange.block)
+  pub reads_back : whole kdc_rep exchange.reply ≡ Ok (reply_of entry.grant exchange.block)
   pub held : aim_holding exchange.directory entry.grant.request.realm entry.grant.terms.aim ≡ Some entry.grant.holding
   pub holder : entry.ticket.holder ≡ entry.grant.holding.holder
   pub opens : opened entry.grant.holding.key.key 2 (reply_of entry.grant exchange.block).ticket.sealed.cipher ≡ Some (enc_ticket_part.spelling entry.part)

@@ -1,10 +1,10 @@
 -- What holds of the history of a run, whatever its batches of changes, its moments and its callers are.
-use Rattle.std.specs.Prelude.{◌≡◌, ◌↔◌, ℕ, true, false, List, length, take, slice_get, None, Some, is_some}
+use Rattle.std.specs.Prelude.{◌≡◌, ◌↔◌, ℕ, true, false, List, flat_map, length, take, slice_get, None, Some, is_some}
 use Rattle.std.specs.List.{AllByRecursion}
 use Rattle.der_core.specs.Laws.{IsBytes}
 use Rattle.dir_records.specs.IsDirectory.{IsDirectory}
 use Rattle.tgs_core.specs.Verdicts.{verdict}
-use Rattle.kdc_frames.specs.Exchanges.{Exchange, Inputs, history_of}
+use Rattle.kdc_frames.specs.Exchanges.{Exchange, Inputs, exchanges_by_caller, history_of}
 use Rattle.kdc_frames.specs.Requests.{Taken}
 use Rattle.history_laws.specs.Chains.{Chain, IsTraced, links, services_told}
 use Rattle.history_laws.specs.Entries.{Entry, entries, entry_at}
@@ -52,3 +52,10 @@ pub record AreChained (history : List Exchange) : Type 0 where
 -- so is the history of every run
 abbrev pub RunLaw : Type 0
 RunLaw = (inputs : Inputs) (callers : List Taken) → AreInputs inputs → AreOctets callers → AreChained (history_of inputs callers)
+
+-- ---- where its history comes from
+
+-- the history of a run is the exchanges of its first caller, then those of the next one, and so on: each caller's begin with the inputs
+-- that the callers before it leave, which is how a run serves its callers
+abbrev pub CallersLaw : Type 0
+CallersLaw = (inputs : Inputs) (callers : List Taken) → history_of inputs callers ≡ flat_map (λ exchanges. exchanges) (exchanges_by_caller inputs callers)
