@@ -1,5 +1,5 @@
 //! A writer of elements.
-ghost use Rattle.std.specs.Prelude.{◌≡◌, ◌<◌, ◌≤◌, ◌+◌, ◌^◌, ◌++◌, ◌∷◌, [], length, take, drop, OnOk, OnErr};
+ghost use Rattle.std.specs.Prelude.{◌≡◌, ◌<◌, ◌≤◌, ◌+◌, ◌-◌, ◌^◌, ◌++◌, ◌∷◌, [], length, take, drop, OnOk, OnErr};
 ghost use Rattle.std.specs.Int.{w32, to_be_bytes};
 ghost use Rattle.der_core.specs.Sizes.{size, width_of};
 ghost use Rattle.der_core.specs.Elements.{element};
@@ -56,6 +56,18 @@ fn put_element(out: &mut Vec<u8>, tag: u8, content: &[u8]) -> Result<(), AllocEr
         return Err(failed);
     }
     Ok(())
+}
+
+/// Puts the last bytes, so many, before the others.
+#[tactic(auto, using(crate::proofs::Turned::turned))]
+fn put_first(bytes: &mut [u8], count: usize)
+    requires { count ≤ length bytes.old }
+    ensures { bytes.new ≡ drop (length bytes.old - count) bytes.old ++ take (length bytes.old - count) bytes.old }
+{
+    bytes.reverse();
+    let (first, others) = bytes.split_at_mut(count);
+    first.reverse();
+    others.reverse();
 }
 
 impl Writer {
@@ -139,7 +151,7 @@ impl Writer {
         let len = self.out.len();
         put_header(&mut self.out, tag, (len - from) as u32)?;
         let header = self.out.len() - len;
-        self.out[from..].rotate_right(header);
+        put_first(&mut self.out[from..], header);
         Ok(())
     }
 

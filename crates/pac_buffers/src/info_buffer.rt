@@ -1,7 +1,7 @@
 //! An entry of the list of buffers, PAC_INFO_BUFFER (MS-PAC, section 2.4).
 
 ghost use Rattle.std.specs.Prelude.{◌≡◌, ◌+◌};
-ghost use Rattle.pac_buffers.specs.InfoBuffers.{info_buffer, leaves, is_misaligned, meets_list};
+ghost use Rattle.pac_buffers.specs.InfoBuffers.{info_buffer, leaves, is_misaligned, meets_list, share_byte};
 
 /// An entry: the buffer's type, how many bytes it has, and where it starts.
 #[derive(Clone, Copy, Debug, PartialEq, Eq)]
@@ -51,5 +51,15 @@ impl InfoBuffer {
         ensures { result ≡ meets_list len self }
     {
         0 < self.size && (self.offset as u128) < len
+    }
+
+    /// Whether a byte is in both.
+    pub fn shares_byte(self, other: InfoBuffer) -> bool
+        ensures { result ≡ share_byte self other }
+    {
+        0 < self.size
+            && 0 < other.size
+            && (self.offset as u128) < other.end()
+            && (other.offset as u128) < self.end()
     }
 }

@@ -1,4 +1,4 @@
-//! Types that are listed again. In ascending order they are found without comparing each with each.
+//! Types that are listed again. Of a long list they are found in ascending order, without comparing each with each.
 
 ghost use Rattle.std.specs.Prelude.{◌≡◌, ◌<◌, ◌≤◌, ◌^◌, ◌&&◌, [], length, nat_eq, nat_lt, All};
 ghost use Rattle.std.specs.List.{list_any};
@@ -11,6 +11,10 @@ use crate::list::has_kind;
 
 /// How many entries are put in order at most. 131,072 bytes have fewer.
 const MOST: usize = 8192;
+
+/// How many entries are compared each with each at most where they could be put in order: a PAC has fewer, and room for the
+/// longest list costs more than that.
+const FEW: usize = 32;
 
 /// Writes the type and the number of each entry.
 fn write_kinds(kinds: &mut [(u32, u32)], list: &[[u8; 16]])
@@ -59,7 +63,7 @@ fn first_of_ascending(kinds: &[(u32, u32)], list: &[[u8; 16]]) -> Option<u32>
     None
 }
 
-fn first_of_few(list: &[[u8; 16]]) -> Option<u32>
+fn first_in_order(list: &[[u8; 16]]) -> Option<u32>
     requires { length list.now ≤ MOST }
     ensures { result ≡ first_twice [] list.now }
 {
@@ -70,7 +74,7 @@ fn first_of_few(list: &[[u8; 16]]) -> Option<u32>
     first_of_ascending(kinds, list)
 }
 
-fn first_of_many(list: &[[u8; 16]]) -> Option<u32>
+fn first_by_pairs(list: &[[u8; 16]]) -> Option<u32>
     ensures { result ≡ first_twice [] list.now }
 {
     for i in 0..list.len() {
@@ -86,9 +90,9 @@ fn first_of_many(list: &[[u8; 16]]) -> Option<u32>
 pub fn first_twice(list: &[[u8; 16]]) -> Option<u32>
     ensures { result ≡ first_twice [] list.now }
 {
-    if list.len() <= MOST {
-        first_of_few(list)
+    if FEW < list.len() && list.len() <= MOST {
+        first_in_order(list)
     } else {
-        first_of_many(list)
+        first_by_pairs(list)
     }
 }

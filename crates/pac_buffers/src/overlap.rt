@@ -1,13 +1,17 @@
 //! Whether buffers share bytes. Buffers that start at multiples of 8 share a byte exactly where they share one whose
-//! place is a multiple of 8, so one mark for 8 bytes finds it, in one pass over the list for 131,072 bytes.
+//! place is a multiple of 8, so one mark for 8 bytes finds it, in one pass over the list for 131,072 bytes. Of a few buffers
+//! each is compared with each.
 
 ghost use Rattle.std.specs.Prelude.{◌≡◌, ℕ, ◌+◌, ◌*◌, ◌%◌, ◌^◌, ◌<◌, ◌≤◌, ◌&&◌, ◌||◌, [], true, false, length, replicate, nat_le, nat_lt, slice_index_or};
 ghost use Rattle.std.specs.Bool.{OnTrue, OnFalse};
-ghost use Rattle.pac_buffers.specs.InfoBuffers.{end_of, is_misaligned, leaves};
+ghost use Rattle.pac_buffers.specs.InfoBuffers.{end_of, is_misaligned, leaves, share_byte};
 ghost use Rattle.pac_buffers.specs.Container.{any_entry, overlap};
 ghost use Rattle.pac_buffers.specs.SharedBytes.{is_shared};
 
 use crate::info_buffer::InfoBuffer;
+
+/// How many buffers are compared each with each at most: a PAC has fewer, and the marks cost more than that.
+const FEW: usize = 32;
 
 /// How many marks there are.
 const MARKS: usize = 16_384;
@@ -69,8 +73,28 @@ fn two_share_from(list: &[[u8; 16]], start: usize) -> bool
     false
 }
 
-/// Whether two buffers have a byte in common.
-pub fn two_share_byte(list: &[[u8; 16]], len: usize) -> bool
+fn any_shares_byte(list: &[[u8; 16]], buffer: InfoBuffer) -> bool
+    ensures { result ≡ any_entry (share_byte buffer) list.now }
+{
+    list.iter()
+        .any(|raw| buffer.shares_byte(InfoBuffer::read(raw)))
+}
+
+/// Whether two buffers have a byte in common, by comparing each with each.
+fn any_pair_shares_byte(list: &[[u8; 16]]) -> bool
+    ensures { result ≡ overlap [] list.now }
+{
+    for i in 0..list.len() {
+        let buffer = InfoBuffer::read(&list[i]);
+        if any_shares_byte(&list[..i], buffer) {
+            return true;
+        }
+    }
+    false
+}
+
+/// Whether two buffers have a byte in common whose place is one that some window's marks stand for.
+fn two_share_in_windows(list: &[[u8; 16]], len: usize) -> bool
     requires short { len < 2 ^ 32 }
     requires within { any_entry (leaves len) list.now ≡ false }
     requires aligned { any_entry is_misaligned list.now ≡ false }
@@ -82,4 +106,18 @@ pub fn two_share_byte(list: &[[u8; 16]], len: usize) -> bool
         }
     }
     false
+}
+
+/// Whether two buffers have a byte in common.
+pub fn two_share_byte(list: &[[u8; 16]], len: usize) -> bool
+    requires short { len < 2 ^ 32 }
+    requires within { any_entry (leaves len) list.now ≡ false }
+    requires aligned { any_entry is_misaligned list.now ≡ false }
+    ensures { result ≡ overlap [] list.now }
+{
+    if list.len() <= FEW {
+        any_pair_shares_byte(list)
+    } else {
+        two_share_in_windows(list, len)
+    }
 }

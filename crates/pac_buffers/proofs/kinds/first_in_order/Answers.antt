@@ -3,7 +3,7 @@ use Rattle.std.specs.List.Sorted.{IsPermutation}
 use Rattle.std.proofs.lemmas.List.Elements.{All-same}
 use Rattle.pac_buffers.specs.Kinds.{numbered}
 use Rattle.pac_buffers.proofs.Ascending.{numbered_small}
-use Rattle.pac_buffers.proofs.kinds.first_of_few.Goals as goal
+use Rattle.pac_buffers.proofs.kinds.first_in_order.Goals as goal
 
 pub sort_kinds-requires : goal.sort_kinds-requires
 sort_kinds-requires c = All-same (λ (x : ℕ × ℕ). x.1 < 2 ^ 32) c.write_kinds.new.kinds (numbered 0 c.args.list.now) c.write_kinds.ensures (numbered_small 0 (2 ^ 32) c.args.list.now (omega arith))

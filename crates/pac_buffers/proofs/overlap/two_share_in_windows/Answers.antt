@@ -2,7 +2,7 @@ use Rattle.std.proofs.Common.{◌≡◌, ℕ, ◌+◌, ◌-◌, ◌*◌, ◌/◌
 use Rattle.std.proofs.lemmas.Bool.{cases_lt}
 use Rattle.pac_buffers.specs.SharedBytes.{is_shared}
 use Rattle.pac_buffers.proofs.Shared.{none_overlap}
-use Rattle.pac_buffers.proofs.overlap.two_share_byte.Goals as goal
+use Rattle.pac_buffers.proofs.overlap.two_share_in_windows.Goals as goal
 
 -- one more window
 window_more : (window : ℕ) (list : List (List ℕ)) → ((place : ℕ) → place < window * 131072 → place % 8 ≡ 0 → is_shared place [] list ≡ false)
