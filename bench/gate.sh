@@ -2,9 +2,21 @@
 # Processor minutes of the gate, a crate at a time and lowest first: of the proof (with the stored run of a program), of the tests and of
 # the must-fail edits. Prints a table for docs/PERFORMANCE.md.
 #   bench/gate.sh [CRATE ..]     all crates, where none is named
+#   bench/gate.sh --once         runs the gate once, as it is, and puts before each line of it the seconds since the start and since the
+#                                line before: how long each crate took, side by side with others and over what earlier runs kept
 # Works on a copy. Each crate is timed with what it stands on already passed: a comment at the end of its root file has `rt ci` prove it
 # anew, first without tests and edits, then with its tests, then whole. So it takes some three times as long as a gate from nothing.
 cd "$(dirname "$0")/.." || exit 1
+if [ "${1-}" = --once ]; then
+    set -o pipefail
+    SECONDS=0
+    before=0
+    bash .ci/run 2>&1 | while IFS= read -r line; do
+        printf '%6d %5d  %s\n' $SECONDS $((SECONDS - before)) "$line"
+        before=$SECONDS
+    done
+    exit
+fi
 top=$PWD
 work=$(mktemp -d)
 trap 'rm -rf "$work"' EXIT
