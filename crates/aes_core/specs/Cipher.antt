@@ -1,4 +1,4 @@
--- Cipher and InvCipher (FIPS 197, 5.1 and 5.3) with a key schedule, which is the list of its words.
+-- Cipher and InvCipher (FIPS 197, sections 5.1 and 5.3) with a key schedule, which is the list of its words.
 use Rattle.std.specs.Prelude.{ℕ, ◌-◌, ◌/◌, List, length}
 use Rattle.aes_core.specs.Aes.{cipher_rounds, inv_cipher_rounds}
 use Rattle.aes_core.specs.KeyExpansion.{round_key}

@@ -1,4 +1,4 @@
--- What the two directions are to each other (FIPS 197, 5.3).
+-- What the two directions are to each other (FIPS 197, section 5.3).
 use Rattle.std.specs.Prelude.{◌≡◌, ℕ, ◌*◌, ◌<◌, ◌≤◌, ◌⊎◌, List, length}
 use Rattle.std.specs.Simd.Lanes.{Each1}
 use Rattle.aes_core.specs.Cipher.{cipher, inv_cipher}

@@ -1,4 +1,4 @@
-//! One block in either direction (FIPS 197, 5.1 and 5.3).
+//! One block in either direction (FIPS 197, sections 5.1 and 5.3).
 
 ghost use Rattle.std.specs.Prelude.{◌≡◌};
 ghost use Rattle.aes_core.specs.Cipher.{cipher, inv_cipher};

@@ -1,4 +1,4 @@
-//! The words of the key schedule (FIPS 197, 5.2), and the keys of the inverse cipher (5.3.5).
+//! The words of the key schedule (FIPS 197, section 5.2), and the keys of the inverse cipher (section 5.3.5).
 
 ghost use Rattle.std.specs.Prelude.{◌≡◌, ℕ, ◌≤◌, ◌<◌, ◌⊎◌, ◌*◌, ◌+◌, ◌-◌, ◌/◌, ◌%◌, map, take, drop};
 ghost use Rattle.std.specs.Int.{w32, to_le_bytes};

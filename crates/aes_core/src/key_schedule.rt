@@ -1,4 +1,4 @@
-//! The key schedule (FIPS 197, 5.2).
+//! The key schedule (FIPS 197, section 5.2).
 
 ghost use Rattle.std.specs.Prelude.{◌≡◌, ◌⊎◌, ◌/◌};
 ghost use Rattle.aes_core.specs.KeyExpansion.{key_expansion};

@@ -1,4 +1,4 @@
-//! The two directions undo each other (FIPS 197, 5.3).
+//! The two directions undo each other (FIPS 197, section 5.3).
 
 ghost use Rattle.aes_core.specs.Inverses.{AreInverses};
 

@@ -1,18 +1,15 @@
 -- What a request that no rule denies is known to be.
-use Rattle.std.proofs.Common.{◌≡◌, Bool, true, false, List, ◌∷◌, drop, refl}
-use Rattle.std.specs.Prelude.{Option, None, Some, is_some, if◌then◌else◌}
+use Rattle.std.proofs.Common.{◌≡◌, true, drop, refl}
+use Rattle.std.specs.Prelude.{Option, None, Some, is_some}
+use Rattle.kdc_prelude.proofs.Verdicts.{passes}
 use Rattle.kdc_prelude.specs.Options.{holds_of}
 use Rattle.kdc_prelude.specs.Verdicts.{first_failing}
+use Rattle.kdc_records.specs.Wishes.{end_is_later, start_is_now}
 use Rattle.kdc_records.specs.declared.rule.Rule.TheVariants.{A1, A2, A3, A4, A5, A6, A7, A8, A9, A10}
 use Rattle.kdc_records.specs.declared.decision.Terms.{Terms}
 use Rattle.kdc_records.specs.declared.rule.Rule.{Rule}
 use Rattle.kdc_records.specs.Decisions.{decided, is_grant}
-use Rattle.as_core.specs.AsRules.{AsGrants, AsRequest, as_decision, as_rules, as_terms, client_is_enabled, end_is_later, key_type_is_listed, options_are_plain, server_is_krbtgt, stamp_is_fresh, stamp_is_read, stamp_is_there, start_is_now}
-
--- the first row holds, and no later one fails
-passes : {R : Type 0} (rule : R) (b : Bool) (rows : List (R × Bool)) → first_failing ((rule, b) ∷ rows) ≡ None → (b ≡ true) × (first_failing rows ≡ None)
-passes rule true rows h = (refl, h)
-passes rule false rows h = absurd (cc)
+use Rattle.as_core.specs.AsRules.{AsGrants, AsRequest, as_decision, as_rules, as_terms, client_is_enabled, key_type_is_listed, options_are_plain, server_is_krbtgt, stamp_is_fresh, stamp_is_read, stamp_is_there}
 
 kept : (ask : AsRequest) → first_failing (as_rules ask) ≡ None → AsGrants ask
 kept ask h =

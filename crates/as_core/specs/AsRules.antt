@@ -1,5 +1,5 @@
 -- The rules of an AS-REQ (RFC 4120, section 3.1.3), and what it is granted.
-use Rattle.std.specs.Prelude.{◌≡◌, ℕ, ℤ, pos, negsuc, ◌+◌, ◌-◌, ◌==◌, ◌&&◌, ◌||◌, Bool, true, false, not, nat_le, nat_lt, List, [], ◌∷◌, ◌++◌, Option, None, Some, is_some, option_map, slice_get, unwrap_or, if◌then◌else◌}
+use Rattle.std.specs.Prelude.{◌≡◌, ℕ, ℤ, pos, negsuc, ◌+◌, ◌-◌, ◌==◌, ◌&&◌, ◌||◌, Bool, true, false, not, nat_le, List, [], ◌∷◌, ◌++◌, Option, None, Some, is_some, if◌then◌else◌}
 use Rattle.std.specs.List.{list_any}
 use Rattle.kdc_prelude.specs.Options.{holds_of}
 use Rattle.kdc_prelude.specs.Steps.{◌>>=◌}
@@ -19,9 +19,10 @@ use Rattle.kdc_records.specs.declared.rule.Rule.TheVariants.{A1, A2, A3, A4, A5,
 use Rattle.kdc_records.specs.declared.wish.Wish.{Wish}
 use Rattle.kdc_records.specs.Bits.{bit_if, has_bit}
 use Rattle.kdc_records.specs.Decisions.{decided}
-use Rattle.kdc_records.specs.Wishes.{are_clear, end_by, session_type, starts_now}
+use Rattle.kdc_records.specs.Wishes.{are_clear, end_by, end_is_later, session_type, start_is_now}
 use Rattle.dir_records.specs.declared.records.Account.{Account as AccountRec}
 use Rattle.dir_records.specs.DirectoryValue.{DirectoryValue}
+use Rattle.dir_core.specs.Lives.{longest_life}
 use Rattle.dir_core.specs.Lookups.{account_at, only_part}
 use Rattle.route_rules.specs.Aims.{resolve, resolve_account}
 use Rattle.as_core.specs.Stamps.{Absent, At, Stamp, Unread}
@@ -43,10 +44,6 @@ client_account dir realm client = client >>= client_index dir realm >>= account_
 -- what the asked server is to the realm at an index
 abbrev pub server_aim : DirectoryValue → ℕ → Option Principal → Option Aim
 server_aim dir realm server = server >>= resolve dir realm
-
--- the longest life of a ticket of the realm at an index, in seconds
-abbrev pub longest_life : DirectoryValue → ℕ → ℕ
-longest_life dir realm = unwrap_or (option_map (λ found. found.max_life) (slice_get dir.realms realm)) 0
 
 -- the end of the ticket: as asked for, and within the realm's longest life
 abbrev pub as_end : Moment → ℕ → Wish → ℕ
@@ -83,11 +80,6 @@ server_is_krbtgt Krbtgt = true
 server_is_krbtgt (Hop trust) = false
 server_is_krbtgt (Account account) = false
 
--- A4: the options allow-postdate and postdated are clear, and from is absent or at most 300 seconds after now (own choice, of RFC 4120,
--- section 3.1.3)
-abbrev pub start_is_now : Moment → Wish → Bool
-start_is_now now wish = starts_now now.secs wish
-
 -- A5: forwarded, proxy, cname-in-addl-tkt, enc-tkt-in-skey, renew and validate are not asked for (RFC 4120, section 3.1.3, and MS-SFU,
 -- section 2.2.3)
 abbrev pub options_are_plain : Wish → Bool
@@ -114,10 +106,6 @@ abbrev pub stamp_is_fresh : Moment → Stamp → Bool
 stamp_is_fresh now Absent = true
 stamp_is_fresh now Unread = true
 stamp_is_fresh now (At micros) = nat_le ((micros - in_micros now) + (in_micros now - micros)) 300000000
-
--- A10: the end is later than now (RFC 4120, section 3.1.3)
-abbrev pub end_is_later : Moment → ℕ → Bool
-end_is_later now end = nat_lt now.secs end
 
 -- of the parties
 abbrev pub party_rules : AsRequest → List (Rule × Bool)

@@ -1,12 +1,12 @@
 //! The rules of an AS-REQ, each by its name (RFC 4120, section 3.1.3).
-ghost use Rattle.std.specs.Prelude.{◌≡◌, ◌≤◌};
-ghost use Rattle.as_core.specs.AsRules.{client_is_enabled, end_is_later, is_stamped, key_type_is_listed, may_be_delegated, options_are_plain, server_is_krbtgt, stamp_is_fresh, stamp_is_read, stamp_is_there, start_is_now};
+ghost use Rattle.std.specs.Prelude.{◌≡◌};
+ghost use Rattle.as_core.specs.AsRules.{client_is_enabled, is_stamped, key_type_is_listed, may_be_delegated, options_are_plain, server_is_krbtgt, stamp_is_fresh, stamp_is_read, stamp_is_there};
 ghost use Rattle.as_core.specs.Stamps.{stamp_seen};
 
 use crate::stamp::StampView;
 use dir_core::Account;
-use kdc_records::{Aim, Wish, are_clear, kdc_option, starts_now};
-use krb_names::{KTime, Moment};
+use kdc_records::{Aim, Wish, are_clear, kdc_option};
+use krb_names::Moment;
 
 /// A2: the client's account is not disabled.
 pub(crate) fn client_is_enabled(account: &Account) -> bool
@@ -20,13 +20,6 @@ pub(crate) fn server_is_krbtgt(aim: Aim) -> bool
     ensures { result ≡ server_is_krbtgt aim }
 {
     matches!(aim, Aim::Krbtgt)
-}
-
-/// A4: the options allow-postdate and postdated are clear, and from is absent or at most 300 seconds after now.
-pub(crate) fn start_is_now(now: Moment, wish: &Wish) -> bool
-    ensures { result ≡ start_is_now now wish.now }
-{
-    starts_now(now.secs, wish)
 }
 
 /// A5: forwarded, proxy, cname-in-addl-tkt, enc-tkt-in-skey, renew and validate are not asked for.
@@ -79,13 +72,6 @@ pub(crate) fn stamp_is_fresh(now: Moment, stamp: StampView) -> bool
         StampView::Absent | StampView::Unread => true,
         StampView::At(moment) => moment.is_within_skew(now),
     }
-}
-
-/// A10: the end is later than now.
-pub(crate) fn end_is_later(now: Moment, end: KTime) -> bool
-    ensures { result ≡ end_is_later now end }
-{
-    now.secs < end.secs()
 }
 
 /// Whether a timestamp was opened.

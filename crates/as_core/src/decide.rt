@@ -1,18 +1,19 @@
 //! The verdict on an AS-REQ.
 ghost use Rattle.std.specs.Prelude.{◌≡◌, ◌<◌, ◌+◌, ◌&&◌, length, None, Some, true, MatchResult};
 ghost use Rattle.std.specs.Option.{option_copied};
+ghost use Rattle.dir_core.specs.Lives.{longest_life};
 ghost use Rattle.kdc_prelude.specs.Options.{holds_of};
 ghost use Rattle.kdc_prelude.specs.Verdicts.{first_failing};
 ghost use Rattle.kdc_records.specs.Bits.{bit_if, has_bit};
-ghost use Rattle.as_core.specs.AsRules.{as_decision, as_end, as_request, as_rules, client_account, client_index, is_stamped, longest_life, may_be_delegated, server_aim};
+ghost use Rattle.as_core.specs.AsRules.{as_decision, as_end, as_request, as_rules, client_account, client_index, is_stamped, may_be_delegated, server_aim};
 ghost use Rattle.as_core.specs.Stamps.{stamp_seen};
 
 use crate::as_rules::*;
 use crate::stamp::StampView;
 use dir_core::{Account, Directory};
 use kdc_records::{
-    Aim, Decision, Rule, Terms, Wish, bit_if, end_by, has_bit, kdc_option, require, session_type,
-    ticket_flag,
+    Aim, Decision, Rule, Terms, Wish, bit_if, end_by, end_is_later, has_bit, kdc_option, require,
+    session_type, start_is_now, ticket_flag,
 };
 use krb_names::{KTime, Moment, Principal};
 use route_rules::{resolve, resolve_account};

@@ -25,7 +25,7 @@ fn a_ticket_is_read_and_written(rt: HostRuntime) -> Result<(), Fail> {
     assert_eq!(rt; ticket.sname.parts.len(), 2);
     assert_eq!(rt; ticket.sealed.etype, 18);
     assert_eq!(rt; ticket.sealed.kvno, Some(1));
-    let bytes = write_ticket(rt.alloc(), &ticket)?;
+    let bytes = write_ticket(&ticket)?;
     assert_eq!(rt; bytes.as_slice(), TICKET.as_slice());
     Ok(())
 }
@@ -36,7 +36,7 @@ fn is_read_right(alloc: Global, bytes: &[u8]) -> Result<bool, TicketFault> {
         return Ok(false);
     }
     match read_ticket(alloc, bytes) {
-        Ok(ticket) => Ok(write_ticket(alloc, &ticket)?.as_slice() == bytes),
+        Ok(ticket) => Ok(write_ticket(&ticket)?.as_slice() == bytes),
         Err(TicketFault::Malformed(_)) => Ok(true),
         Err(TicketFault::NoMemory) => Err(TicketFault::NoMemory),
     }
@@ -120,7 +120,7 @@ fn a_part_is_read_and_written(rt: HostRuntime) -> Result<(), Fail> {
     assert_eq!(rt; part.transited.len(), 2);
     assert_eq!(rt; part.end.secs(), 1_700_036_000);
     assert_eq!(rt; part.items.len(), 1);
-    let bytes = write_part(rt.alloc(), &part)?;
+    let bytes = write_part(&part)?;
     assert_eq!(rt; bytes.as_slice(), WRITTEN.as_slice());
     Ok(())
 }

@@ -1,4 +1,4 @@
--- BIT STRING, by its content (X.690 8.6), as far as its first 32 bits.
+-- BIT STRING, by its content (X.690, section 8.6), as far as its first 32 bits.
 use Rattle.std.specs.Prelude.{◌≡◌, ℕ, ◌-◌, ◌*◌, ◌/◌, ◌^◌, ◌≤◌, List, [], ◌∷◌, ◌++◌, length, take, Result, Ok, nat_lt, if◌then◌else◌}
 use Rattle.std.specs.Int.{w32, to_be_bytes, from_be_bytes}
 use Rattle.der_core.specs.declared.refusal.DerRefusal.{DerRefusal}

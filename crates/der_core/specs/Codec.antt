@@ -43,7 +43,7 @@ alone c = record {
   Fits = c.Fits;
 }
 
--- the form c, explicitly tagged (X.690 8.14)
+-- the form c, explicitly tagged (X.690, section 8.14)
 abbrev pub explicit : {X : Type 0} → ℕ → Codec X → Codec X
 explicit tag c = element_of tag (alone c)
 

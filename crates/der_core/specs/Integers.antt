@@ -1,4 +1,4 @@
--- INTEGER, by its content (X.690 8.3).
+-- INTEGER, by its content (X.690, section 8.3).
 use Rattle.std.specs.Prelude.{ℕ, ◌-◌, List, [], ◌∷◌, ◌++◌, length, replicate, Bool, false, Result, Ok, nat_lt, nat_eq, if◌then◌else◌, ℤ, ◌≡◌, ◌≤◌, ◌<◌}
 use Rattle.std.specs.Int.{w64, to_be_bytes, from_be_bytes, cast_signed, cast_unsigned}
 use Rattle.der_core.specs.declared.refusal.DerRefusal.{DerRefusal}

@@ -5,7 +5,7 @@ use Rattle.der_core.specs.Laws.{IsCodec}
 use Rattle.der_forms.specs.Fields.{Fields, optional, optional_spelling, tag_of}
 use Rattle.der_forms.specs.Laws.{AreFields}
 use Rattle.der_forms.specs.FieldLaws.{Remakes, remade_lawful, optional_lawful}
-use Rattle.der_forms.specs.Defaults.{or_else, unless, defaulted}
+use Rattle.der_forms.specs.Defaults.{or_usual, unless, defaulted}
 
 -- the test is met by the usual value alone
 pub record Tests {X : Type 0} (usual : X) (is_usual : X → Bool) : Type 0 where
@@ -22,7 +22,7 @@ defaulted_lawful {X} {Y} n c usual is_usual more tests above one others =
     remade_lawful (optional n c more) _ _ (λ x fits. by_value x.0 x.1 fits) (optional_lawful n c more above one others)
   where
     by_value : (x : Option X) (y : Y) → (optional n c more).content.Fits (x, y)
-        → Remakes (optional n c more) (λ (x : Option X × Y). (or_else usual x.0, x.1)) (λ (x : X × Y). (unless is_usual x.0, x.1)) (x, y)
+        → Remakes (optional n c more) (λ (x : Option X × Y). (or_usual usual x.0, x.1)) (λ (x : X × Y). (unless is_usual x.0, x.1)) (x, y)
     by_value None y fits = (record { same = rw tests.met refl; fits = rw tests.met fits; no_longer = rw tests.met (omega arith) })
     by_value (Some x) y fits = elim (decided (is_usual x)) [
       | inl p ↦ record {

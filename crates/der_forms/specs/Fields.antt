@@ -1,4 +1,4 @@
--- The fields of a SEQUENCE, explicitly tagged with their numbers (X.690 8.9; RFC 4120 appendix A).
+-- The fields of a SEQUENCE, explicitly tagged with their numbers (X.690, section 8.9; RFC 4120, appendix A).
 use Rattle.std.specs.Prelude.{◌≡◌, ℕ, ◌+◌, List, [], ◌∷◌, ◌++◌, Ok, Option, Some, None, IfSome, Bool, false, nat_eq, if◌then◌else◌, Result}
 use Rattle.der_core.specs.declared.refusal.DerRefusal.{DerRefusal}
 use Rattle.der_core.specs.Place.{At, ◌>>=◌}

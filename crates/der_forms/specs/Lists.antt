@@ -1,4 +1,4 @@
--- SEQUENCE OF (X.690 8.10).
+-- SEQUENCE OF (X.690, section 8.10).
 use Rattle.std.specs.Prelude.{◌≡◌, ℕ, zero, suc, ◌≤◌, List, [], ◌∷◌, length, Bool, true, false, Result, Ok, nat_eq, if◌then◌else◌}
 use Rattle.std.specs.List.{flat_map, AllByRecursion}
 use Rattle.der_core.specs.declared.refusal.DerRefusal.{DerRefusal}

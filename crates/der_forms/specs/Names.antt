@@ -5,8 +5,8 @@ use Rattle.der_core.specs.Forms.{text_such}
 use Rattle.krb_names.specs.Pieces.{is_name}
 
 -- a text that may stand in a name
-abbrev pub name_text : Codec (List ℕ)
-name_text = text_such is_name
+abbrev pub kerberos_string : Codec (List ℕ)
+kerberos_string = text_such is_name
 
 abbrev pub realm : Codec (List ℕ)
-realm = name_text
+realm = kerberos_string

@@ -2,11 +2,12 @@
 use Rattle.std.proofs.Common.{◌≡◌, ◌++◌, ap, map, refl, sym}
 use Rattle.std.specs.Prelude.{None, Ok, Err, Some, option_and_then}
 use Rattle.std.specs.Option.{option_to_list}
+use Rattle.kdc_prelude.specs.Results.{unless_refused}
 use Rattle.kdc_prelude.specs.Verdicts.{first_failing, ◌or_else◌}
 use Rattle.dir_records.specs.declared.change.Change.{Change}
 use Rattle.dir_records.specs.declared.refusal.DirCause.{DirCause}
 use Rattle.dir_records.specs.DirectoryValue.{DirectoryValue}
-use Rattle.dir_records.specs.WellFormed.{kept_rows, unless_refused}
+use Rattle.dir_records.specs.WellFormed.{kept_rows}
 use Rattle.dir_core.specs.Changed.{change_cause, changed, own_rows}
 use Rattle.dir_core.specs.Edits.{changed_account, edited, key_taken, number_taken, realm_after}
 use Rattle.dir_core.proofs.KeptDirectories.{made}

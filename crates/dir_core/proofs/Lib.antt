@@ -1,8 +1,12 @@
 pub mod ChangeSteps
 pub mod EditedBounds
 pub mod EditedRanges
+pub mod Indexing
 pub mod KeptDirectories
 pub mod Once
 pub mod OnlyLimits
+pub mod Places
+pub mod Served
 pub mod SidApart
+pub mod SidNumbers
 pub mod SidOnce

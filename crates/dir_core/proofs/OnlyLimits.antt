@@ -4,6 +4,7 @@ use Rattle.std.specs.Prelude.{nat_le, nat_lt, codes, filter, if◌then◌else◌
 use Rattle.std.specs.List.{list_all, list_any}
 use Rattle.std.proofs.lemmas.Bool.{le-leb, ltb-false}
 use Rattle.std.proofs.lemmas.List.{length-map}
+use Rattle.kdc_prelude.proofs.Verdicts.{neither}
 use Rattle.kdc_prelude.specs.Texts.{same_text}
 use Rattle.kdc_prelude.specs.Verdicts.{first_failing, ◌or_else◌}
 use Rattle.krb_names.specs.Pieces.{has_forbidden, is_empty, is_long, is_name}
@@ -26,7 +27,7 @@ use Rattle.dir_records.specs.DirectoryValue.{DirectoryValue}
 use Rattle.dir_records.specs.Forms.{is_account_name, is_key, is_positive, is_service_name}
 use Rattle.dir_records.specs.Members.{account_fault, accounts_refusal, identity_rows, list_rows, members_refusal, realm_refusal, realm_rows, realms_refusal, refused_at, trust_rows, trusts_refusal, whole_rows}
 use Rattle.dir_records.specs.WellFormed.{clash_refusal, first_refusal, has_few_spent, is_well_formed}
-use Rattle.dir_records.proofs.Bounds.{from_none, neither}
+use Rattle.dir_records.proofs.Bounds.{from_none}
 use Rattle.dir_core.specs.Edits.{account_after, accounts_after, edited, edited_account, edited_realm, edited_trust, is_named, life_after, marked, new_account, realm_after, trust_after, without}
 
 both_true : (a b : Bool) → (a && b) ≡ true → (a ≡ true) × (b ≡ true)

@@ -4,6 +4,7 @@ use Rattle.std.proofs.lemmas.Cmp.{nat_eq_equiv}
 use Rattle.std.proofs.lemmas.List.{map-append}
 use Rattle.std.specs.List.{list_all, list_any, starts_with}
 use Rattle.std.specs.Prelude.{Option, None, Some, is_none, if◌then◌else◌}
+use Rattle.kdc_prelude.proofs.Verdicts.{neither}
 use Rattle.kdc_prelude.specs.Distinct.{all_distinct}
 use Rattle.kdc_prelude.specs.Texts.{same_text}
 use Rattle.kdc_prelude.specs.Verdicts.{◌or_else◌}
@@ -19,7 +20,7 @@ use Rattle.dir_records.specs.Marks.{account_marks, marks_of, name_marks, number_
 use Rattle.dir_records.specs.Repeats.{first_repeat}
 use Rattle.dir_records.specs.WellFormed.{is_well_formed, refused_for}
 use Rattle.dir_records.proofs.Apart.{marked, neither_earlier}
-use Rattle.dir_records.proofs.Bounds.{clash_none, neither}
+use Rattle.dir_records.proofs.Bounds.{clash_none}
 use Rattle.dir_records.proofs.Distinctness.{no_repeat}
 
 numbers_of : (at number : ℕ) (accounts : List Account) → marked (account_marks (λ account. account.number) at number accounts) ≡ map (λ account. account.number) accounts

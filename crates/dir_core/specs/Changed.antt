@@ -2,6 +2,7 @@
 use Rattle.std.specs.Prelude.{◌||◌, Bool, true, nat_eq, List, [], ◌∷◌, Option, is_none, is_some, Result}
 use Rattle.std.specs.List.{list_any}
 use Rattle.kdc_prelude.specs.Options.{holds_of}
+use Rattle.kdc_prelude.specs.Results.{unless_refused}
 use Rattle.kdc_prelude.specs.Texts.{is_one_of}
 use Rattle.kdc_prelude.specs.Verdicts.{first_failing, ◌or_else◌}
 use Rattle.krb_names.specs.SidValue.{same_sid}
@@ -13,7 +14,7 @@ use Rattle.dir_records.specs.declared.refusal.DirCause.{DirCause}
 use Rattle.dir_records.specs.declared.refusal.DirCause.TheVariants.{BadField, UnknownRef}
 use Rattle.dir_records.specs.Changes.{named_account, has_forms, partner_of, realm_of}
 use Rattle.dir_records.specs.DirectoryValue.{DirectoryValue}
-use Rattle.dir_records.specs.WellFormed.{kept_rows, unless_refused}
+use Rattle.dir_records.specs.WellFormed.{kept_rows}
 use Rattle.dir_core.specs.Edits.{changed_account, changed_trust, edited}
 use Rattle.dir_core.specs.Lookups.{realm_named}
 

@@ -1,3 +1,5 @@
 pub mod Changed
 pub mod Edits
+pub mod Lives
+pub mod Indexed
 pub mod Lookups

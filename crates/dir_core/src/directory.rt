@@ -3,19 +3,19 @@ ghost use Rattle.std.specs.Prelude.{◌≡◌, ◌≢◌, ◌<◌, ◌≤◌, �
 ghost use Rattle.std.specs.Option.{option_copied};
 ghost use Rattle.kdc_prelude.specs.Answers.{Answers};
 ghost use Rattle.kdc_prelude.specs.Distinct.{all_distinct};
+ghost use Rattle.kdc_prelude.specs.Results.{unless_refused};
 ghost use Rattle.kdc_prelude.specs.Texts.{same_text};
 ghost use Rattle.kdc_prelude.specs.Verdicts.{first_failing};
 ghost use Rattle.dir_core.specs.Changed.{changed, own_rows};
 ghost use Rattle.dir_core.specs.Edits.{changed_account, changed_trust, edited};
+ghost use Rattle.dir_core.specs.Indexed.{IsRealmIndexed};
 ghost use Rattle.dir_core.specs.Lookups.{account_at, account_named, account_of, account_serving, accounts_at, has_sid, has_spn, is_reached, next_hop, place_of, realm_named, sid_at, sid_place, spn_place, trusts_at};
 ghost use Rattle.dir_records.specs.IsDirectory.{IsDirectory, IsRealm};
-ghost use Rattle.dir_records.specs.WellFormed.{directory_of_realms, first_refusal, is_well_formed, no_memory, unless_refused};
+ghost use Rattle.dir_records.specs.WellFormed.{directory_of_realms, first_refusal, is_well_formed, no_memory};
 
 use crate::allowed::{find_trust, is_account_found, is_trust_found};
-use crate::lookups::{
-    has_trust_reaching, narrow, place_of_account, place_of_realm, place_of_sid, place_of_spn,
-    place_of_trust,
-};
+use crate::indexes::{Indexes, RealmIndex};
+use crate::lookups::{has_trust_reaching, narrow, place_of_sid, place_of_trust};
 use crate::realm_edits::realms_after;
 use crate::taken::{spend_key, spend_number};
 use dir_records::{
@@ -27,23 +27,25 @@ use std::alloc::{AllocError, Global};
 use std::marker::Model;
 
 /// Realms with their accounts and trusts, and the keys and numbers that are spent, which keep all forms and limits of a
-/// directory.
+/// directory, with ordered indexes beside the lists.
 #[derive(Debug, Drop)]
 pub struct Directory {
     alloc: Global,
     contents: Contents,
+    indexes: Indexes,
 }
 
 impl Model for Directory {
     ghost use Rattle.std.specs.Prelude.{◌≡◌, true};
     ghost use Rattle.dir_records.specs.DirectoryValue.{DirectoryValue};
     ghost use Rattle.dir_records.specs.WellFormed.{is_well_formed};
+    ghost use Rattle.dir_core.specs.Indexed.{IsIndexed};
 
     ghost Value = { DirectoryValue };
 
     ghost view = { λ d. d.contents };
 
-    ghost invariant = { λ d. is_well_formed d.contents ≡ true };
+    ghost invariant = { λ d. (is_well_formed d.contents ≡ true) × IsIndexed d.indexes d.contents };
 }
 
 impl Directory {
@@ -75,9 +77,22 @@ impl Directory {
         ensures { Answers no_memory result (unless_refused (first_refusal contents) contents) }
     {
         match find_refusal(alloc, &contents)? {
-            None => Ok(Directory { alloc, contents }),
+            None => Ok(Directory::with_indexes(alloc, contents)?),
             Some(refusal) => Err(refusal),
         }
+    }
+
+    /// The directory of well-formed contents, with their indexes.
+    fn with_indexes(alloc: Global, contents: Contents) -> Result<Directory, AllocError>
+        requires { is_well_formed contents ≡ true }
+        ensures { IfOk result (λ directory. directory ≡ contents) }
+    {
+        let indexes = Indexes::of_contents(alloc, &contents)?;
+        Ok(Directory {
+            alloc,
+            contents,
+            indexes,
+        })
     }
 
     /// Tells that it is a directory: consistent, and in the ranges of the types.
@@ -115,7 +130,7 @@ impl Directory {
         ensures within { IfSome result (λ i. i < length self.now.realms) }
         ensures only { count_by (λ realm. same_text realm.name name.now) self.now.realms ≤ 1 }
     {
-        narrow(place_of_realm(self.contents.realms.as_slice(), name))
+        self.indexes.names.find(name)
     }
 
     /// The index of the account of this name in the realm at an index.
@@ -125,7 +140,16 @@ impl Directory {
         ensures within { IfSome result (λ account. account < length (accounts_at self.now realm)) }
         ensures only { IfSome (slice_get self.now.realms realm) (λ realm. count_by (λ account. same_text account.name name.now) realm.accounts ≤ 1) }
     {
-        narrow(place_of_account(self.realm(realm).accounts.as_slice(), name))
+        self.index_of(realm).names.find(name)
+    }
+
+    /// The indexes of the realm at an index.
+    fn index_of(&self, realm: u32) -> &RealmIndex
+        requires { realm < length self.now.realms }
+        ensures indexed { IfSome (slice_get self.now.realms realm) (λ realm. IsRealmIndexed result.now realm) }
+        ensures well { is_well_formed self.now ≡ true }
+    {
+        &self.indexes.realms.as_slice()[realm as usize]
     }
 
     /// The account at an index in the realm at an index, if there is one.
@@ -154,7 +178,7 @@ impl Directory {
         ensures account { IfSome result (λ place. place.1 < length (accounts_at self.now place.0)) }
         ensures only { sum_by (λ realm. count_by (has_spn spn.now) realm.accounts) self.now.realms ≤ 1 }
     {
-        place_of_spn(self.contents.realms.as_slice(), spn)
+        self.indexes.spns.find(spn)
     }
 
     /// Where the account of this name stands, the index of its realm and its own there: a name of one part, which is
@@ -210,7 +234,11 @@ impl Directory {
         ensures account { IfSome result (λ place. place.1 < length (accounts_at self.now place.0)) }
         ensures only { sum_by (λ realm. count_by (has_sid realm.sid sid.now) realm.accounts) self.now.realms ≤ 1 }
     {
-        place_of_sid(self.contents.realms.as_slice(), sid)
+        place_of_sid(
+            self.contents.realms.as_slice(),
+            self.indexes.realms.as_slice(),
+            sid,
+        )
     }
 
     /// The index of the first trust of one realm that leads to another: whose partner is that realm, or whose reach
@@ -261,10 +289,7 @@ impl Directory {
         }
         let contents = self.edited(change)?;
         match find_change_cause(self.alloc, &contents)? {
-            None => Ok(Directory {
-                alloc: self.alloc,
-                contents,
-            }),
+            None => Ok(Directory::with_indexes(self.alloc, contents)?),
             Some(cause) => Err(cause),
         }
     }
@@ -337,6 +362,7 @@ impl Directory {
         Ok(Directory {
             alloc: self.alloc,
             contents: self.contents.try_clone(self.alloc)?,
+            indexes: self.indexes.try_clone(self.alloc)?,
         })
     }
 }

@@ -4,9 +4,11 @@
 mod account_edits;
 mod allowed;
 mod directory;
+mod indexes;
 mod laws;
 mod lookups;
 mod realm_edits;
+mod spn_index;
 mod taken;
 
 pub use dir_records::{

@@ -3,6 +3,7 @@ use Rattle.std.proofs.Common.{◌≡◌, ℕ, suc, zero, ◌+◌, ◌++◌, List
 use Rattle.std.proofs.lemmas.List.{map-append}
 use Rattle.std.specs.Prelude.{Option, None, Some, is_none, flat_map, slice_get, if◌then◌else◌}
 use Rattle.std.proofs.lemmas.Cmp.{nat_list_eq_equiv}
+use Rattle.kdc_prelude.proofs.Verdicts.{neither}
 use Rattle.kdc_prelude.specs.Distinct.{all_distinct}
 use Rattle.kdc_prelude.specs.Texts.{same_text}
 use Rattle.kdc_prelude.specs.Verdicts.{◌or_else◌}
@@ -16,7 +17,7 @@ use Rattle.dir_records.specs.Clashes.{◌or_earlier◌, duplicate, entry_repeat,
 use Rattle.dir_records.specs.Marks.{account_marks, marks_from, marks_of, name_marks, number_marks, partner_marks, spent_number_marks, spn_marks, spn_marks_from}
 use Rattle.dir_records.specs.DirectoryValue.{DirectoryValue}
 use Rattle.dir_records.specs.WellFormed.{is_well_formed, refused_for}
-use Rattle.dir_records.proofs.Bounds.{clash_none, neither}
+use Rattle.dir_records.proofs.Bounds.{clash_none}
 use Rattle.dir_records.specs.Repeats.{first_repeat}
 use Rattle.dir_records.proofs.Distinctness.{no_repeat}
 

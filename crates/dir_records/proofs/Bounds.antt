@@ -2,6 +2,7 @@
 use Rattle.std.proofs.Common.{◌≡◌, ◌≤◌, ◌<◌, ◌+◌, ◌^◌, ◌&&◌, ℕ, suc, zero, List, [], ◌∷◌, Bool, true, false, length, get_or, refl, arith}
 use Rattle.std.specs.Prelude.{All, Option, None, Some, is_none, nat_le, nat_lt}
 use Rattle.std.proofs.lemmas.Bool.{leb-true, ltb-true}
+use Rattle.kdc_prelude.proofs.Verdicts.{neither}
 use Rattle.krb_names.specs.Pieces.{is_name}
 use Rattle.dir_records.specs.Forms.{is_key}
 use Rattle.kdc_prelude.specs.Verdicts.{first_failing, ◌or_else◌}
@@ -13,11 +14,6 @@ use Rattle.dir_records.specs.declared.refusal.DirPlace.TheVariants.{Whole, Realm
 use Rattle.dir_records.specs.Members.{accounts_refusal, members_refusal, realm_refusal, realm_rows, realms_refusal, refused_at, trusts_refusal, whole_rows}
 use Rattle.dir_records.specs.DirectoryValue.{DirectoryValue}
 use Rattle.dir_records.specs.WellFormed.{clash_refusal, first_refusal, has_few_spent, is_well_formed}
-
--- neither of two finds anything
-pub neither : {R : Type 0} (a b : Option R) → (a or_else b) ≡ None → (a ≡ None) × (b ≡ None)
-neither None b h = (refl, h)
-neither (Some r) b h = absurd (cc)
 
 pub from_none : {R : Type 0} (a : Option R) → is_none a ≡ true → a ≡ None
 from_none None h = refl

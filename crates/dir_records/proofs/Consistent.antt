@@ -5,6 +5,7 @@ use Rattle.std.proofs.lemmas.Cmp.{nat_eq_equiv, nat_list_eq_equiv}
 use Rattle.std.proofs.lemmas.List.{map-append}
 use Rattle.std.specs.List.{AllByRecursion, list_all, starts_with}
 use Rattle.std.specs.Prelude.{Option, None, Some, filter, flat_map, if◌then◌else◌, is_none, nat_le}
+use Rattle.kdc_prelude.proofs.Verdicts.{neither}
 use Rattle.kdc_prelude.specs.Distinct.{all_distinct}
 use Rattle.kdc_prelude.specs.Texts.{same_text}
 use Rattle.kdc_prelude.specs.Verdicts.{first_failing, ◌or_else◌}
@@ -28,7 +29,7 @@ use Rattle.dir_records.specs.Members.{members_refusal, refused_at}
 use Rattle.dir_records.specs.Repeats.{first_repeat}
 use Rattle.dir_records.specs.WellFormed.{clash_refusal, first_refusal, has_few_spent, is_well_formed, kept_rows, refused_for}
 use Rattle.dir_records.proofs.Apart.{marked, neither_earlier, of_accounts, of_names, of_realms, of_spns}
-use Rattle.dir_records.proofs.Bounds.{from_none, neither}
+use Rattle.dir_records.proofs.Bounds.{from_none}
 use Rattle.dir_records.proofs.Distinctness.{no_repeat}
 use Rattle.dir_records.proofs.MemberForms.{are_realms, realms_are_passed}
 use Rattle.dir_records.proofs.Tables.{accounts_hold, accounts_pass, both_none, no_fault, not_refused, realms_hold, realms_pass, rows_hold, rows_pass, trusts_hold, trusts_pass}

@@ -4,6 +4,7 @@ use Rattle.std.specs.Prelude.{Option, None, nat_le, nat_lt, sum_by}
 use Rattle.std.specs.List.{AllByRecursion}
 use Rattle.std.proofs.lemmas.Bool.{le-leb, leb-true, lt-ltb, ltb-true}
 use Rattle.std.proofs.lemmas.List.Sums.{sum_by-cons}
+use Rattle.kdc_prelude.proofs.Verdicts.{neither}
 use Rattle.kdc_prelude.specs.Verdicts.{first_failing, ◌or_else◌}
 use Rattle.dir_records.specs.declared.records.Account.{Account}
 use Rattle.dir_records.specs.declared.records.RealmRec.{RealmRec}
@@ -13,7 +14,6 @@ use Rattle.dir_records.specs.declared.refusal.DirCause.TheVariants.{TooMany}
 use Rattle.dir_records.specs.declared.refusal.DirPlace.TheVariants.{Whole, Realm, Account as AtAccount, Trust as AtTrust}
 use Rattle.dir_records.specs.IsDirectory.{IsAccount, IsRealm, IsTrust}
 use Rattle.dir_records.specs.Members.{account_fault, accounts_refusal, identity_rows, list_rows, members_refusal, realm_refusal, realm_rows, realms_refusal, refused_at, trust_rows, trusts_refusal, whole_rows}
-use Rattle.dir_records.proofs.Bounds.{neither}
 use Rattle.dir_records.proofs.Tables.{both_none, no_fault, not_refused, rows_hold, rows_pass}
 
 account_is : (account : Account) → account_fault account ≡ None → IsAccount account

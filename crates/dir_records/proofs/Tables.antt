@@ -3,6 +3,7 @@ use Rattle.std.proofs.Common.{◌≡◌, ℕ, suc, zero, ◌+◌, ◌<◌, ◌�
 use Rattle.std.proofs.lemmas.Option.{slice_get_read}
 use Rattle.std.specs.Prelude.{Option, None, Some, if◌then◌else◌, slice_get}
 use Rattle.std.specs.List.{AllByRecursion, enumerate_from, list_all}
+use Rattle.kdc_prelude.proofs.Verdicts.{neither}
 use Rattle.kdc_prelude.specs.Verdicts.{first_failing, ◌or_else◌}
 use Rattle.dir_records.specs.declared.records.Account.{Account}
 use Rattle.dir_records.specs.declared.records.RealmRec.{RealmRec}
@@ -12,7 +13,6 @@ use Rattle.dir_records.specs.declared.refusal.DirPlace.{DirPlace}
 use Rattle.dir_records.specs.Clashes.{in_realms}
 use Rattle.dir_records.specs.Marks.{account_marks, trust_marks}
 use Rattle.dir_records.specs.Members.{refused_at}
-use Rattle.dir_records.proofs.Bounds.{neither}
 
 row_holds : {R : Type 0} (rule : R) (b : Bool) (rest : Option R) (Rest : Type 0) → (rest ≡ None → Rest) → (if b then rest else Some rule) ≡ None → (b ≡ true) × Rest
 row_holds rule true rest Rest holds h = (refl, holds h)

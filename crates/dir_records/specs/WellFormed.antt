@@ -1,5 +1,6 @@
 -- When realms make a directory, and why they do not (the order of the causes is an own choice).
-use Rattle.std.specs.Prelude.{◌&&◌, Bool, nat_le, List, [], ◌∷◌, length, Option, None, Some, is_none, option_map, Result, Ok, Err}
+use Rattle.std.specs.Prelude.{◌&&◌, Bool, nat_le, List, [], ◌∷◌, length, Option, None, Some, is_none, option_map, Result}
+use Rattle.kdc_prelude.specs.Results.{unless_refused}
 use Rattle.kdc_prelude.specs.Verdicts.{first_failing, ◌or_else◌}
 use Rattle.dir_records.specs.declared.records.RealmRec.{RealmRec}
 use Rattle.dir_records.specs.declared.refusal.DirCause.{DirCause}
@@ -49,10 +50,6 @@ kept_rows dir =
 -- realms before any change
 abbrev pub unchanged : List RealmRec → DirectoryValue
 unchanged realms = record { realms = realms; spent_keys = []; spent_numbers = [] }
-
-abbrev pub unless_refused : {R : Type 0} → Option R → DirectoryValue → Result DirectoryValue R
-unless_refused None dir = Ok dir
-unless_refused (Some refusal) dir = Err refusal
 
 -- the directory of these realms, or why they make none
 abbrev pub directory_of_realms : List RealmRec → Result DirectoryValue DirRefusal

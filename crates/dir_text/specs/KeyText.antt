@@ -1,5 +1,6 @@
 -- KEY: {"etype": 17 or 18, "kvno": 1 to 4294967295, "key": hex of the type's length}
-use Rattle.std.specs.Prelude.{ℕ, ◌==◌, List, [], ◌∷◌, length, codes, if◌then◌else◌, Option, None, Some, Result, Ok, Err}
+use Rattle.std.specs.Prelude.{ℕ, ◌==◌, List, [], ◌∷◌, length, codes, if◌then◌else◌, Option, None, Some, Result, Ok}
+use Rattle.std.specs.Result.{result_ok}
 use Rattle.kdc_prelude.specs.Results.{◌>>=◌}
 use Rattle.hex.specs.Hex.{decode_of}
 use Rattle.serde_json.specs.Data.{Data}
@@ -13,7 +14,7 @@ use Rattle.dir_records.specs.declared.records.KeyRec.{KeyRec}
 use Rattle.dir_records.specs.declared.refusal.DirPlace.{DirPlace}
 use Rattle.dir_records.specs.declared.refusal.DirRefusal.{DirRefusal}
 use Rattle.dir_text.specs.Members.{is_object, is_object_of, or_bad, passing, required}
-use Rattle.dir_text.specs.Values.{number_of, ok_of, text_of}
+use Rattle.dir_text.specs.Values.{number_of, text_of}
 
 abbrev pub key_members : List (List ℕ)
 key_members = codes "etype" ∷ codes "kvno" ∷ codes "key" ∷ []
@@ -23,7 +24,7 @@ etype_of n = if n == 17 then Aes128 else Aes256
 
 -- the octets of a hex text
 unfoldable pub octets_of : DirPlace → List ℕ → Result (List ℕ) DirRefusal
-octets_of place text = or_bad place (ok_of (decode_of text))
+octets_of place text = or_bad place (result_ok (decode_of text))
 
 -- the key with these octets, which are as many as its type has
 unfoldable pub key_with : DirPlace → Etype → List ℕ → Result Key DirRefusal

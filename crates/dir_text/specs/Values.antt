@@ -1,5 +1,6 @@
 -- What a JSON value is read as, with BadField where it is of another kind or range (own choice).
 use Rattle.std.specs.Prelude.{ℕ, ◌&&◌, Bool, nat_le, List, length, Option, None, Some, Result, Ok, Err}
+use Rattle.std.specs.Result.{result_ok}
 use Rattle.kdc_prelude.specs.Results.{◌>>=◌}
 use Rattle.serde_json.specs.Data.{Data, Num}
 use Rattle.serde_json.specs.Find.{as_str, as_bool, as_number, as_u64}
@@ -39,12 +40,8 @@ spn_of place d = text_of place d >>= passing place is_service_name
 unfoldable pub salt_of : DirPlace → Data → Result (List ℕ) DirRefusal
 salt_of place d = text_of place d >>= passing place (λ salt. nat_le (length salt) 1024)
 
-abbrev pub ok_of : {X E : Type 0} → Result X E → Option X
-ok_of (Ok x) = Some x
-ok_of (Err fault) = None
-
 unfoldable pub sid_of : DirPlace → Data → Result SidValue DirRefusal
-sid_of place d = text_of place d >>= λ text. or_bad place (ok_of (sid_reading text))
+sid_of place d = text_of place d >>= λ text. or_bad place (result_ok (sid_reading text))
 
 -- the SID of a realm leaves room for the number of an account
 unfoldable pub realm_sid_of : DirPlace → Data → Result SidValue DirRefusal

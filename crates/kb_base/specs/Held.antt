@@ -43,3 +43,16 @@ pub record EntropyValue : Type 0 where
 pub record SteadyDoorValue : Type 0 where
   pub callers : CallersValue
   pub faults : ℕ
+
+-- the bytes that are left of a peer, and those that it was sent
+pub record LinkValue : Type 0 where
+  pub left : List ℕ
+  pub sent : List ℕ
+  pub fails : List ℕ
+  pub calls : ℕ
+  pub faults : ℕ
+
+-- the same of a peer that never fails
+pub record SteadyLinkValue : Type 0 where
+  pub left : List ℕ
+  pub sent : List ℕ

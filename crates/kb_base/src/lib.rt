@@ -1,4 +1,4 @@
-//! The outside of the program as traits: where bytes come from and where they go, callers, changes, the time and random octets, and versions of all in memory.
+//! The outside of the program as traits: where bytes come from and where they go, callers, a peer, changes, the time and random octets, and versions of all in memory.
 #![tactic(auto)]
 
 mod batches;
@@ -11,10 +11,12 @@ mod door;
 mod entropy;
 mod fault;
 mod front;
+mod link;
 mod mem_changes;
 mod mem_clock;
 mod mem_door;
 mod mem_entropy;
+mod mem_link;
 mod mem_sink;
 mod mem_source;
 mod sink;
@@ -23,6 +25,7 @@ mod steady;
 mod steady_changes;
 mod steady_door;
 mod steady_entropy;
+mod steady_link;
 mod whole;
 
 pub use changes::Changes;
@@ -30,10 +33,12 @@ pub use clock::Clock;
 pub use door::Door;
 pub use entropy::Entropy;
 pub use fault::{DeviceFault, Failed};
+pub use link::Link;
 pub use mem_changes::MemChanges;
 pub use mem_clock::MemClock;
 pub use mem_door::MemDoor;
 pub use mem_entropy::MemEntropy;
+pub use mem_link::MemLink;
 pub use mem_sink::MemSink;
 pub use mem_source::MemSource;
 pub use sink::Sink;
@@ -42,4 +47,5 @@ pub use steady::{SteadySink, SteadySource};
 pub use steady_changes::SteadyChanges;
 pub use steady_door::SteadyDoor;
 pub use steady_entropy::SteadyEntropy;
+pub use steady_link::SteadyLink;
 pub use whole::{ReadEnd, read_whole, write_whole};

@@ -1,4 +1,4 @@
-//! The real devices behind the traits of `kb_base`: files, the standard streams, callers over TCP, the clock and the random octets of the system.
+//! The real devices behind the traits of `kb_base`: files, the standard streams, callers and a peer over TCP, the clock and the random octets of the system.
 #![tactic(auto)]
 
 mod batch;
@@ -11,6 +11,7 @@ mod std_source;
 mod sys_clock;
 mod sys_entropy;
 mod tcp_door;
+mod tcp_link;
 #[cfg(test)]
 mod tests;
 
@@ -22,3 +23,4 @@ pub use std_source::StdSource;
 pub use sys_clock::SysClock;
 pub use sys_entropy::SysEntropy;
 pub use tcp_door::TcpDoor;
+pub use tcp_link::TcpLink;

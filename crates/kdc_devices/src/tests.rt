@@ -1,6 +1,8 @@
 //! Each device once, over real files and sockets, with its faults.
-use crate::{FileChanges, FileSource, StdDoor, StdSink, StdSource, SysClock, SysEntropy, TcpDoor};
-use kb_base::{Changes, Clock, DeviceFault, Door, Entropy, Failed, Sink, Source};
+use crate::{
+    FileChanges, FileSource, StdDoor, StdSink, StdSource, SysClock, SysEntropy, TcpDoor, TcpLink,
+};
+use kb_base::{Changes, Clock, DeviceFault, Door, Entropy, Failed, Link, Sink, Source};
 use std::alloc::Global;
 use std::fs::{self, File, OpenOptions};
 use std::io::{self, Read, Write};
@@ -188,6 +190,29 @@ fn callers_come_over_tcp(rt: HostRuntime) -> Result<(), Fail> {
     first.read_to_end(&mut answer)?;
     assert_eq!(rt; answer.as_slice(), b"answer".as_slice());
     assert_eq!(rt; door.read(&mut buf), Ok(4));
+    Ok(())
+}
+
+#[test]
+fn a_peer_is_asked_over_tcp(rt: HostRuntime) -> Result<(), Fail> {
+    let Some((mut door, port)) = open_door(&rt) else {
+        assert!(rt; false, "a port");
+        return Ok(());
+    };
+    let mut buf = [0; 8];
+    let mut link = TcpLink::new(&rt, "127.0.0.1", port);
+    assert_eq!(rt; link.write(b"ask"), Ok(3));
+    assert_eq!(rt; link.write(b""), Ok(0));
+    assert_eq!(rt; door.next_caller(), Ok(true));
+    assert_eq!(rt; door.read(&mut buf), Ok(3));
+    assert_eq!(rt; door.write(b"answer"), Ok(6));
+    assert_eq!(rt; link.read(&mut buf), Ok(6));
+    assert_eq!(rt; &buf[..6], b"answer".as_slice());
+    // Nobody listens any more.
+    drop(door);
+    let mut link = TcpLink::new(&rt, "127.0.0.1", port);
+    assert_eq!(rt; link.read(&mut buf), Err(Failed));
+    assert_eq!(rt; link.write(b"ask"), Err(DeviceFault::Failed));
     Ok(())
 }
 

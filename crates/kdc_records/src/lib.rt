@@ -23,4 +23,4 @@ pub use rule::{Rule, require};
 pub use subject::{Delegation, Subject, is_user};
 pub use ticket_rec::TicketRec;
 pub use wish::{Branch, Wish};
-pub use wish_rules::{are_clear, end_by, session_type, starts_now};
+pub use wish_rules::{are_clear, end_by, end_is_later, session_type, start_is_now};

@@ -1,11 +1,11 @@
 //! What a request asks for, by itself and at a time (RFC 4120, sections 3.1.3 and 3.3.3).
 ghost use Rattle.std.specs.Prelude.{◌≡◌, ◌≤◌, ◌<◌, All};
-ghost use Rattle.kdc_records.specs.Wishes.{are_clear, end_by, is_by, session_type, starts_now};
+ghost use Rattle.kdc_records.specs.Wishes.{are_clear, end_by, end_is_later, is_by, session_type, start_is_now};
 
 use crate::bits::has_bit;
 use crate::kdc_option;
 use crate::wish::Wish;
-use krb_names::{Etype, KTime};
+use krb_names::{Etype, KTime, Moment};
 
 /// How long after now a ticket may be asked to start, in seconds.
 const LATEST_START: u64 = 300;
@@ -29,14 +29,13 @@ fn is_by(latest: u64, from: Option<KTime>) -> bool
 }
 
 /// Whether neither allow-postdate nor postdated is asked for, and the start at most 300 seconds after now.
-pub fn starts_now(now: u64, wish: &Wish) -> bool
-    requires { now ≤ 250000000000 }
-    ensures { result ≡ starts_now now wish.now }
+pub fn start_is_now(now: Moment, wish: &Wish) -> bool
+    ensures { result ≡ start_is_now now wish.now }
 {
     are_clear(
         &[kdc_option::ALLOW_POSTDATE, kdc_option::POSTDATED],
         wish.options,
-    ) && is_by(now + LATEST_START, wish.from)
+    ) && is_by(now.secs + LATEST_START, wish.from)
 }
 
 /// The first type of the list that is 17 or 18; type 18 where it has none, which the rules refuse.
@@ -60,4 +59,11 @@ pub fn end_by(till: KTime, latest: KTime) -> KTime
     } else {
         till
     }
+}
+
+/// Whether a ticket that ends then is valid at all: the end is later than now.
+pub fn end_is_later(now: Moment, end: KTime) -> bool
+    ensures { result ≡ end_is_later now end }
+{
+    now.secs < end.secs()
 }

@@ -2,7 +2,7 @@
 use Rattle.std.specs.Prelude.{ℕ, ℤ, pos, List, Option}
 use Rattle.der_core.specs.Codec.{Codec, explicit}
 use Rattle.der_core.specs.Forms.{int32, octets, text, number_is}
-use Rattle.der_forms.specs.Defaults.{or_else}
+use Rattle.der_forms.specs.Defaults.{or_usual}
 use Rattle.der_forms.specs.Fields.{Fields, end, field, optional, made, sequence}
 use Rattle.der_forms.specs.Names.{realm as realm_name}
 use Rattle.der_forms.specs.Times.{kerberos_time, moment_time, bare_time, each_time}
@@ -35,7 +35,7 @@ parts =
 
 abbrev pub make : Parts → KrbError
 make (_, (_, (ctime, (cusec, (stime, (susec, (error_code, (crealm, (cname, (realm, (sname, (e_text, (e_data, _))))))))))))) =
-    record { pvno = pos 5; msg_type = pos 30; ctime = bare_time ctime; cusec = bare_micros cusec; stime = stime; susec = susec; error_code = error_code; crealm = crealm; cname = named (or_else realm crealm) cname; realm = realm; sname = in_realm sname realm; e_text = e_text; e_data = e_data }
+    record { pvno = pos 5; msg_type = pos 30; ctime = bare_time ctime; cusec = bare_micros cusec; stime = stime; susec = susec; error_code = error_code; crealm = crealm; cname = named (or_usual realm crealm) cname; realm = realm; sname = in_realm sname realm; e_text = e_text; e_data = e_data }
 
 abbrev pub parts_of : KrbError → Parts
 parts_of x = (tt, (tt, (each_time x.ctime, (each_micros x.cusec, (x.stime, (x.susec, (x.error_code, (x.crealm, (unnamed x.cname, (x.realm, (name_of x.sname, (x.e_text, (x.e_data, tt)))))))))))))

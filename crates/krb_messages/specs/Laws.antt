@@ -5,7 +5,7 @@ use Rattle.der_core.specs.CodecLaws.{explicit_lawful}
 use Rattle.der_core.specs.FormLaws.{int_lawful, int32_lawful, octets_lawful, text_lawful, number_is_lawful}
 use Rattle.der_forms.specs.Choices.{tag_in}
 use Rattle.der_forms.specs.ChoiceLaws.{Tells, choice_lawful}
-use Rattle.der_forms.specs.Defaults.{or_else}
+use Rattle.der_forms.specs.Defaults.{or_usual}
 use Rattle.der_forms.specs.FieldLaws.{dropped_lawful, field_lawful, optional_lawful, end_lawful, made_lawful, sequence_lawful}
 use Rattle.der_forms.specs.Fields.{sequence}
 use Rattle.der_forms.specs.KeptLaws.{kept_lawful}
@@ -195,7 +195,7 @@ error_again x = λ i. (
               (
                 x.1.1.1.1.1.1.1.0,
                 (
-                  named_again (or_else x.1.1.1.1.1.1.1.1.1.0 x.1.1.1.1.1.1.1.0) x.1.1.1.1.1.1.1.1.0 i,
+                  named_again (or_usual x.1.1.1.1.1.1.1.1.1.0 x.1.1.1.1.1.1.1.0) x.1.1.1.1.1.1.1.1.0 i,
                   x.1.1.1.1.1.1.1.1.1,
                 ),
               ),

@@ -119,7 +119,7 @@ impl Message for KdcReq {
 
 /// The bytes of a request whose `body_bytes` are the one spelling of its body.
 #[tactic(auto, using(crate::specs::KdcReqLaws::own_fits, crate::specs::KdcReqLaws::own_respelt, crate::specs::KdcReqLaws::own_is))]
-pub fn write_request(alloc: Global, value: &KdcReq) -> Result<Bytes, AllocError>
+pub fn write_request(value: &KdcReq) -> Result<Bytes, AllocError>
     requires own { IsOwn value.now }
     requires short { length (kdc_req.spelling value.now) < 2 ^ 32 }
     // The body is spelt from its fields.
@@ -127,5 +127,5 @@ pub fn write_request(alloc: Global, value: &KdcReq) -> Result<Bytes, AllocError>
     // And the bytes read as the request.
     ensures value { IfOk result (λ bytes. kdc_req.IsDer bytes value.now) }
 {
-    write(alloc, value)
+    write(value.allocator(), value)
 }

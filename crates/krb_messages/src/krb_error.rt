@@ -17,7 +17,7 @@
 //! }
 //! ```
 ghost use Rattle.std.specs.Prelude.{◌≡◌, IfOk};
-ghost use Rattle.der_forms.specs.Defaults.{or_else};
+ghost use Rattle.der_forms.specs.Defaults.{or_usual};
 ghost use Rattle.krb_tickets.specs.PrincipalName.{named};
 
 use der_core::{Reader, Writer};
@@ -60,7 +60,7 @@ fn client_of(
     crealm: &Option<Realm>,
     realm: &Realm,
 ) -> Result<Option<Principal>, AllocError>
-    ensures { IfOk result (λ client. client ≡ named (or_else realm.now crealm.now) cname) }
+    ensures { IfOk result (λ client. client ≡ named (or_usual realm.now crealm.now) cname) }
 {
     match crealm {
         Some(crealm) => named(alloc, cname, crealm),

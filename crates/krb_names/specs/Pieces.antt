@@ -1,5 +1,5 @@
 -- The pieces of names (own choice, within RFC 4120, section 6).
-use Rattle.std.specs.Prelude.{ℕ, ◌==◌, ◌||◌, ◌&&◌, nat_le, nat_lt, Bool, true, not, List, [], ◌∷◌, length, if◌then◌else◌, Option, None, Some, is_none, Result, Ok, Err}
+use Rattle.std.specs.Prelude.{ℕ, ◌==◌, ◌||◌, ◌&&◌, nat_le, nat_lt, Bool, true, not, List, [], ◌∷◌, length, if◌then◌else◌, Option, None, Some, is_none}
 use Rattle.std.specs.List.{list_any}
 use Rattle.std.specs.Str.{chars}
 use Rattle.krb_names.specs.declared.refusal.NameRefusal.{NameRefusal}
@@ -26,10 +26,6 @@ fault_of pieces fits =
     else (if list_any is_long pieces then Some TooLong
     else (if not fits || list_any has_forbidden pieces then Some BadText
     else None))
-
-abbrev pub unless : {X : Type 0} → Option NameRefusal → X → Result X NameRefusal
-unless None x = Ok x
-unless (Some fault) x = Err fault
 
 -- a text that may stand in a name
 abbrev pub is_name : List ℕ → Bool

@@ -6,7 +6,7 @@ use Rattle.der_core.specs.Laws.{IsBytes}
 use Rattle.der_forms.specs.Fields.{made}
 use Rattle.der_forms.specs.Growths.{Grows, ContentGrows}
 use Rattle.der_forms.specs.GrowthLaws.{behind_grows, depending_same, dropped_same, element_of_same, end_same, explicit_grows, explicit_same, field_same, flags_near, int_within_same, items_same, kerberos_time_same, key_same, listed_same, made_grows, number_is_same, octets_same, optional_same, sequence_grows, sequence_of_same, sequence_same, text_such_same, uint32_same}
-use Rattle.der_forms.specs.Names.{realm, name_text}
+use Rattle.der_forms.specs.Names.{realm, kerberos_string}
 use Rattle.krb_names.specs.Pieces.{is_name}
 use Rattle.krb_tickets.specs.NameString.{name_string, is_joined}
 use Rattle.krb_tickets.specs.NameStringLaws.{one_spelling}
@@ -31,7 +31,7 @@ name_string_same : (kind : ℤ) → ContentGrows 0 (name_string kind)
 name_string_same kind = record { at_most = λ bytes parts are_bytes d. by_form bytes parts are_bytes d }
   where
     by_form : (bytes : List ℕ) (parts : List (List ℕ)) → IsBytes bytes → (name_string kind).IsDer bytes parts → length (flat_map text.spelling parts) ≤ length bytes + 0
-    by_form bytes parts are_bytes (inl d) = items_same name_text (text_such_same is_name) bytes parts are_bytes d.0.0
+    by_form bytes parts are_bytes (inl d) = items_same kerberos_string (text_such_same is_name) bytes parts are_bytes d.0.0
     by_form bytes parts are_bytes (inr d) =
         let one = (text_such_same is_joined).at_most bytes d.1.part are_bytes d.1.spelt in
         omega (arith, one, ap length (one_spelling parts d.1.part d.1.lone))

@@ -8,13 +8,13 @@ use Rattle.der_core.specs.Elements.{element_at}
 use Rattle.der_core.specs.Codec.{Content}
 use Rattle.der_core.specs.Forms.{text, text_such}
 use Rattle.der_forms.specs.Lists.{some_items}
-use Rattle.der_forms.specs.Names.{name_text}
+use Rattle.der_forms.specs.Names.{kerberos_string}
 use Rattle.krb_names.specs.Pieces.{is_name}
 use Rattle.krb_names.specs.Principals.{name_reading}
 
 -- name texts
 abbrev pub plain_parts : Content (List (List ℕ))
-plain_parts = some_items 8 name_text
+plain_parts = some_items 8 kerberos_string
 
 -- a name and a realm joined by `@`, which is no name text itself
 abbrev pub is_joined : List ℕ → Bool

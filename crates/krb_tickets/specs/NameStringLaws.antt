@@ -16,15 +16,15 @@ use Rattle.der_core.specs.Steps.{bind_ok, chosen, good, ok_is, Passes-all}
 use Rattle.der_core.specs.ElementLaws.{element_found, element_only}
 use Rattle.der_core.specs.FormLaws.{text_such_lawful}
 use Rattle.der_forms.specs.ListLaws.{some_items_lawful}
-use Rattle.der_forms.specs.Names.{name_text}
-use Rattle.der_forms.specs.NameLaws.{name_text_lawful}
+use Rattle.der_forms.specs.Names.{kerberos_string}
+use Rattle.der_forms.specs.NameLaws.{kerberos_string_lawful}
 use Rattle.krb_names.specs.Pieces.{is_name}
 use Rattle.krb_names.specs.Principals.{name_reading}
 use Rattle.std.specs.Prelude.{is_ok}
 use Rattle.krb_tickets.specs.NameString.{plain_parts, is_joined, is_joined_text, IsLone, is_enterprise, begins_joined, lone_at, name_string}
 
 pub plain_parts_lawful : IsContent plain_parts
-plain_parts_lawful = some_items_lawful 8 name_text name_text_lawful
+plain_parts_lawful = some_items_lawful 8 kerberos_string kerberos_string_lawful
 
 both : (a b : Bool) → (a && b) ≡ true → (a ≡ true) × (b ≡ true)
 both true b h = (refl, h)

@@ -142,12 +142,12 @@ pub fn read_part(alloc: Global, bytes: &[u8]) -> Result<EncTicketPart, TicketFau
 }
 
 /// The one spelling of a part: flags of 32 bits, no renew-till and no caddr, no items as an absent field.
-pub fn write_part(alloc: Global, value: &EncTicketPart) -> Result<Bytes, AllocError>
+pub fn write_part(value: &EncTicketPart) -> Result<Bytes, AllocError>
     requires fits { enc_ticket_part.Fits value.now }
     requires short { length (enc_ticket_part.spelling value.now) < 2 ^ 31 }
     ensures ok { IfOk result (λ bytes. bytes ≡ enc_ticket_part.spelling value.now) }
 {
-    write(alloc, value)
+    write(value.items.allocator(), value)
 }
 
 /// What holds of the form of parts.

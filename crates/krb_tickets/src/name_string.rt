@@ -4,7 +4,7 @@ ghost use Rattle.der_core.specs.Codec.{element_of, explicit};
 ghost use Rattle.der_core.specs.Elements.{element};
 ghost use Rattle.der_forms.specs.Fields.{tag_of};
 ghost use Rattle.der_forms.specs.Lists.{items_at};
-ghost use Rattle.der_forms.specs.Names.{name_text};
+ghost use Rattle.der_forms.specs.Names.{kerberos_string};
 ghost use Rattle.der_forms.specs.Reads.{Reads, ReadsOn};
 ghost use Rattle.krb_tickets.specs.NameString.{plain_parts, is_joined, begins_joined, lone_at, name_string};
 
@@ -102,7 +102,7 @@ fn read_plain(alloc: Global, content: Reader) -> Result<Texts, ReadFault>
 }
 
 fn read_texts(alloc: Global, content: Reader) -> Result<Texts, ReadFault>
-    ensures exact { Reads result (items_at 8 content.entry.place name_text content.entry) }
+    ensures exact { Reads result (items_at 8 content.entry.place kerberos_string content.entry) }
 {
     let fault = content.refusal(DerCause::LengthForm);
     let mut from = content;
@@ -121,7 +121,7 @@ fn read_texts(alloc: Global, content: Reader) -> Result<Texts, ReadFault>
 }
 
 fn read_name_text(alloc: Global, from: &mut Reader) -> Result<Text, ReadFault>
-    ensures exact { ReadsOn result from.new (name_text.reading from.old) }
+    ensures exact { ReadsOn result from.new (kerberos_string.reading from.old) }
 {
     let content = from.take(0x1b)?;
     let text = content.content_text()?;

@@ -105,12 +105,12 @@ pub fn read_ticket(alloc: Global, bytes: &[u8]) -> Result<Ticket, TicketFault>
 }
 
 /// The one spelling of a ticket.
-pub fn write_ticket(alloc: Global, value: &Ticket) -> Result<Bytes, AllocError>
+pub fn write_ticket(value: &Ticket) -> Result<Bytes, AllocError>
     requires fits { ticket.Fits value.now }
     requires short { length (ticket.spelling value.now) < 2 ^ 31 }
     ensures ok { IfOk result (λ bytes. bytes ≡ ticket.spelling value.now) }
 {
-    write(alloc, value)
+    write(value.realm.allocator(), value)
 }
 
 /// What holds of the form of tickets.

@@ -20,7 +20,7 @@ use Rattle.pac_logon.specs.declared.members.DomainHeads.{DomainHeads}
 use Rattle.pac_logon.specs.declared.members.ExtraHeads.{ExtraHeads}
 use Rattle.pac_logon.specs.declared.members.Members.{Members}
 use Rattle.pac_logon.specs.declared.logon_info.LogonInfo.{LogonInfo}
-use Rattle.pac_logon.specs.Members.{filetime, never, logon_times, name_heads, array_head, account_heads, domain_heads, control_fields, extra_heads, members, array_of, names_of, domain_of}
+use Rattle.pac_logon.specs.Members.{filetime, never, logon_times, name_heads, array_head, account_heads, domain_heads, control_fields, extra_heads, members, array_of, names_of, domain_heads_of}
 use Rattle.pac_logon.specs.Referents.{name_behind, group, group_array, groups_behind, domain_behind, sid_past, extra_behind, subject_behind}
 use Rattle.pac_logon.specs.Logon.{logon, members_of, IsNdrText, IsWritable}
 use Rattle.pac_logon.proofs.Sizes.{logon_most}
@@ -132,7 +132,7 @@ group_array_keeps groups = alike _ groups (beside (number_keeps w32 (length grou
 groups_keep : (groups : List ℕ) → KeepsBytes (groups_behind (array_of groups)) groups
 groups_keep groups = pointed_keeps (array_of groups).there (group_array (length groups)) [] groups (group_array_keeps groups)
 
-domain_behind_keeps : (name : List ℕ) (sid : SidValue) → IsNdrText name → KeepsBytes (domain_behind (domain_of name)) (name, sid)
+domain_behind_keeps : (name : List ℕ) (sid : SidValue) → IsNdrText name → KeepsBytes (domain_behind (domain_heads_of name)) (name, sid)
 unfolding domain_behind
 domain_behind_keeps name sid h = alike _ (name, sid) (beside (text_keeps name h.utf8) (sid_keeps 14 sid)) (λ old. refl)
 

@@ -19,7 +19,7 @@ use Rattle.ndr_values.specs.Sids.{authority, rpc_sid}
 use Rattle.ndr_values.specs.Texts.{string_head, text_of, head_of, head_of_octets}
 use Rattle.ndr_values.proofs.TextLaws.{even_octets}
 use Rattle.pac_logon.specs.declared.logon_info.LogonInfo.{LogonInfo}
-use Rattle.pac_logon.specs.Members.{filetime, never, logon_times, name_heads, array_head, account_heads, domain_heads, control_fields, extra_heads, members, no_string, array_of, names_of, account_of, domain_of, no_extra}
+use Rattle.pac_logon.specs.Members.{filetime, never, logon_times, name_heads, array_head, account_heads, domain_heads, control_fields, extra_heads, members, no_string, array_of, names_of, account_heads_of, domain_heads_of, no_extra}
 use Rattle.pac_logon.specs.Referents.{name_behind, group, group_array, groups_behind, domain_behind, sid_past, extra_behind, subject_behind}
 use Rattle.pac_logon.proofs.LogonLaws.{logon_lawful}
 use Rattle.pac_logon.proofs.Sizes.{logon_most}
@@ -53,11 +53,11 @@ array_fits : (elements : List ℕ) → length elements ≤ 1024 → array_head.F
 unfolding array_head
 array_fits elements few = (refl, (omega arith, (tt, either (eqb (length elements) 0))))
 
-account_fits : (user : ℕ) (groups : List ℕ) → user < 2 ^ 32 → length groups ≤ 1024 → account_heads.Fits (account_of user groups)
+account_fits : (user : ℕ) (groups : List ℕ) → user < 2 ^ 32 → length groups ≤ 1024 → account_heads.Fits (account_heads_of user groups)
 unfolding account_heads
 account_fits user groups lt few = (refl, (lit< tt, (lit< tt, (lt, (lit< tt, (array_fits groups few, (lit< tt, refl)))))))
 
-domain_fits : (name : List ℕ) → length (utf16le_text name) ≤ 65534 → domain_heads.Fits (domain_of name)
+domain_fits : (name : List ℕ) → length (utf16le_text name) ≤ 65534 → domain_heads.Fits (domain_heads_of name)
 unfolding domain_heads
 domain_fits name few = (refl, (head_fits [] (omega arith), (head_fits (utf16le_text name) few, (tt, refl))))
 
@@ -160,7 +160,7 @@ domain_sid_fits s h =
     let within : is_between 1 14 n ≡ true = rw (le-leb 1 n h.some, le-leb n 14 h.few) refl in
     (refl, ((omega (arith, h.few), within), ((lit< tt, refl), ((omega (arith, h.few), eq-eqb n n refl), (refl, (authority_fits s.authority h.low, repeated_fits (number w32) s.numbers h.fits))))))
 
-domain_behind_fits : (name : List ℕ) (sid : SidValue) → IsNdrText name → IsDomainSid sid → (domain_behind (domain_of name)).Fits (name, sid)
+domain_behind_fits : (name : List ℕ) (sid : SidValue) → IsNdrText name → IsDomainSid sid → (domain_behind (domain_heads_of name)).Fits (name, sid)
 unfolding domain_behind
 domain_behind_fits name sid h s = (refl, (refl, (text_fits name h, domain_sid_fits sid s)))
 

@@ -20,7 +20,7 @@ use Rattle.pac_logon.specs.declared.members.DomainHeads.{DomainHeads}
 use Rattle.pac_logon.specs.declared.members.ExtraHeads.{ExtraHeads}
 use Rattle.pac_logon.specs.declared.members.Members.{Members}
 use Rattle.pac_logon.specs.declared.logon_info.LogonInfo.{LogonInfo}
-use Rattle.pac_logon.specs.Members.{filetime, never, logon_times, name_heads, array_head, account_heads, domain_heads, control_fields, extra_heads, members, array_of, names_of, domain_of}
+use Rattle.pac_logon.specs.Members.{filetime, never, logon_times, name_heads, array_head, account_heads, domain_heads, control_fields, extra_heads, members, array_of, names_of, domain_heads_of}
 use Rattle.pac_logon.specs.Referents.{name_behind, group, group_array, groups_behind, domain_behind, sid_past, extra_behind, subject_behind}
 use Rattle.pac_logon.specs.Logon.{logon, members_of}
 
@@ -202,7 +202,7 @@ group_array_takes groups few =
 groups_take : (groups : List ℕ) → length groups ≤ 1024 → Takes (groups_behind (array_of groups)) groups 14343
 groups_take groups few = pointed_takes (array_of groups).there (group_array (length groups)) [] groups 14343 (group_array_takes groups few)
 
-domain_behind_takes : (name : List ℕ) (sid : SidValue) → length (utf16le_text name) ≤ 65534 → length sid.numbers ≤ 15 → Takes (domain_behind (domain_of name)) (name, sid) 65675
+domain_behind_takes : (name : List ℕ) (sid : SidValue) → length (utf16le_text name) ≤ 65534 → length sid.numbers ≤ 15 → Takes (domain_behind (domain_heads_of name)) (name, sid) 65675
 unfolding domain_behind
 domain_behind_takes name sid few some = alike _ (name, sid) (beside (text_takes name few) (sid_takes 14 sid some)) (λ old. refl)
 

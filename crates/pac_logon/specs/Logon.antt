@@ -6,7 +6,7 @@ use Rattle.krb_names.specs.SidValue.{SidValue, followed_by}
 use Rattle.krb_names.specs.Utf16.{utf16le_text}
 use Rattle.pac_logon.specs.declared.members.Members.{Members}
 use Rattle.pac_logon.specs.declared.logon_info.LogonInfo.{LogonInfo}
-use Rattle.pac_logon.specs.Members.{members, names_of, account_of, domain_of, no_extra}
+use Rattle.pac_logon.specs.Members.{members, names_of, account_heads_of, domain_heads_of, no_extra}
 use Rattle.pac_logon.specs.Referents.{subject_behind}
 
 -- how the members are written
@@ -14,8 +14,8 @@ abbrev pub members_of : LogonInfo → Members
 members_of info = record {
   logon_time = info.time;
   names = names_of info.subject.name;
-  account = account_of info.subject.number info.subject.groups;
-  domain = domain_of info.subject.domain;
+  account = account_heads_of info.subject.number info.subject.groups;
+  domain = domain_heads_of info.subject.domain;
   user_account_control = info.subject.control;
   extra = no_extra;
 }

@@ -86,11 +86,11 @@ array_of elements = record { count = length elements; there = not (nat_eq (lengt
 abbrev pub names_of : List ℕ → NameHeads
 names_of name = record { effective_name = head_of name; full_name = no_string; logon_script = no_string; profile_path = no_string; home_directory = no_string; home_directory_drive = no_string }
 
-abbrev pub account_of : ℕ → List ℕ → AccountHeads
-account_of number groups = record { user_id = number; group_ids = array_of groups }
+abbrev pub account_heads_of : ℕ → List ℕ → AccountHeads
+account_heads_of number groups = record { user_id = number; group_ids = array_of groups }
 
-abbrev pub domain_of : List ℕ → DomainHeads
-domain_of name = record { logon_server = no_string; logon_domain_name = head_of name }
+abbrev pub domain_heads_of : List ℕ → DomainHeads
+domain_heads_of name = record { logon_server = no_string; logon_domain_name = head_of name }
 
 abbrev pub no_extra : ExtraHeads
 no_extra = record { extra_sids = array_of []; resource_group_domain_sid = false; resource_group_ids = array_of [] }

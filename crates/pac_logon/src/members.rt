@@ -4,7 +4,7 @@ ghost use Rattle.std.specs.Prelude.{◌≡◌, ◌≤◌, ◌<◌, ◌^◌, [], 
 ghost use Rattle.krb_names.specs.Utf16.{utf16le_text};
 ghost use Rattle.ndr_core.specs.Gives.{Reads};
 ghost use Rattle.ndr_values.specs.Texts.{string_head};
-ghost use Rattle.pac_logon.specs.Members.{filetime, logon_times, name_heads, array_head, account_heads, domain_heads, control_fields, extra_heads, members, no_string, array_of, names_of, account_of, domain_of, no_extra};
+ghost use Rattle.pac_logon.specs.Members.{filetime, logon_times, name_heads, array_head, account_heads, domain_heads, control_fields, extra_heads, members, no_string, array_of, names_of, account_heads_of, domain_heads_of, no_extra};
 ghost use Rattle.pac_logon.specs.Logon.{members_of};
 
 use crate::logon_info::LogonInfo;
@@ -250,7 +250,7 @@ fn put_names(alloc: Global, to: &mut NdrWriter, name: &str) -> Result<(), AllocE
 #[tactic(auto, unfolding(crate::specs::Members::account_heads))]
 fn put_account(to: &mut NdrWriter, user_id: u32, groups: &[u32]) -> Result<(), AllocError>
     requires few { length groups.now ≤ 1024 }
-    ensures { OnOk result (to.new ≡ account_heads.written to.old (account_of user_id groups.now)) }
+    ensures { OnOk result (to.new ≡ account_heads.written to.old (account_heads_of user_id groups.now)) }
 {
     to.u16(0)?;
     to.u16(0)?;
@@ -264,7 +264,7 @@ fn put_account(to: &mut NdrWriter, user_id: u32, groups: &[u32]) -> Result<(), A
 #[tactic(auto, unfolding(crate::specs::Members::domain_heads))]
 fn put_domain(alloc: Global, to: &mut NdrWriter, name: &str) -> Result<(), AllocError>
     requires few { length (utf16le_text name.now) ≤ 65534 }
-    ensures { OnOk result (to.new ≡ domain_heads.written to.old (domain_of name.now)) }
+    ensures { OnOk result (to.new ≡ domain_heads.written to.old (domain_heads_of name.now)) }
 {
     put_no_string(to)?;
     put_head(alloc, to, name)?;

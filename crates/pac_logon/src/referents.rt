@@ -4,7 +4,7 @@ ghost use Rattle.std.specs.Prelude.{◌≡◌, ◌≤◌, ◌<◌, ◌^◌, leng
 ghost use Rattle.krb_names.specs.Utf16.{utf16le_text};
 ghost use Rattle.ndr_core.specs.Gives.{Reads, Gives};
 ghost use Rattle.ndr_core.specs.Arrays.{repeated};
-ghost use Rattle.pac_logon.specs.Members.{array_of, names_of, domain_of};
+ghost use Rattle.pac_logon.specs.Members.{array_of, names_of, domain_heads_of};
 ghost use Rattle.pac_logon.specs.Referents.{name_behind, group, group_array, groups_behind, domain_behind, subject_behind};
 ghost use Rattle.pac_logon.specs.Logon.{members_of};
 
@@ -151,7 +151,7 @@ fn put_group_ids(to: &mut NdrWriter, groups: &[u32]) -> Result<(), AllocError>
 #[tactic(auto, unfolding(crate::specs::Referents::domain_behind))]
 fn put_domain(alloc: Global, to: &mut NdrWriter, name: &str, sid: &Sid) -> Result<(), AllocError>
     requires few { length (utf16le_text name.now) ≤ 65534 }
-    ensures { OnOk result (to.new ≡ (domain_behind (domain_of name.now)).written to.old (name.now, sid.now)) }
+    ensures { OnOk result (to.new ≡ (domain_behind (domain_heads_of name.now)).written to.old (name.now, sid.now)) }
 {
     put_text(alloc, to, name)?;
     put_sid(to, sid)

@@ -1,20 +1,15 @@
 -- What a request that no rule denies is known to be.
-use Rattle.std.proofs.Common.{◌≡◌, ℕ, Bool, true, false, List, ◌∷◌, drop, refl}
+use Rattle.std.proofs.Common.{◌≡◌, ℕ, drop}
 use Rattle.std.specs.Prelude.{None}
-use Rattle.kdc_prelude.specs.Verdicts.{first_failing}
+use Rattle.kdc_prelude.proofs.Verdicts.{passes}
+use Rattle.kdc_records.specs.Wishes.{end_is_later}
 use Rattle.krb_names.specs.declared.moment.Moment.{Moment}
 use Rattle.kdc_records.specs.declared.decision.Aim.{Aim}
 use Rattle.kdc_records.specs.declared.rule.Rule.TheVariants.{P6, P7, P8, P9, P10, P11, P12, T1}
 use Rattle.kdc_records.specs.declared.ticket_rec.TicketRec.{TicketRec}
 use Rattle.kdc_records.specs.declared.wish.Wish.{Wish}
 use Rattle.dir_records.specs.DirectoryValue.{DirectoryValue}
-use Rattle.s4u_rules.specs.TgsRules.{end_is_later}
 use Rattle.proxy_rules.specs.ProxyRules.{ProxyGrants, Shown, ShownEvidence, chain_is_short, delegation_is_allowed, evidence_agrees, evidence_is_reached, evidence_lasts, evidence_may_be_used, proxy_end, proxy_rules, proxy_verdict, user_is_delegable}
-
--- the first row holds, and no later one fails
-passes : {R : Type 0} (rule : R) (b : Bool) (rows : List (R × Bool)) → first_failing ((rule, b) ∷ rows) ≡ None → (b ≡ true) × (first_failing rows ≡ None)
-passes rule true rows h = (refl, h)
-passes rule false rows h = absurd (cc)
 
 pub granted : (dir : DirectoryValue) (at : ℕ) (now : Moment) (wish : Wish) (header : TicketRec) (aim : Aim) (evidence : ShownEvidence)
     → proxy_verdict dir at now wish header aim (Shown evidence) ≡ None → ProxyGrants dir at now wish header aim evidence

@@ -1,4 +1,3 @@
 pub mod Delegations
 pub mod Grants
 pub mod Lasts
-pub mod Tables

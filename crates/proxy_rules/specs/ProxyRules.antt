@@ -1,6 +1,7 @@
 -- The rules of S4U2proxy (MS-SFU, section 3.2.5.2), and what a request for it is granted.
 use Rattle.std.specs.Prelude.{◌≡◌, ℕ, ◌+◌, ◌&&◌, ◌||◌, Bool, true, false, not, min, nat_le, nat_lt, List, [], ◌∷◌, ◌++◌, length, Option, None, Some, is_some, slice_get, if◌then◌else◌}
 use Rattle.std.specs.List.{join_with_byte, list_any}
+use Rattle.dir_core.specs.Lives.{longest_life}
 use Rattle.kdc_prelude.specs.Options.{holds_of}
 use Rattle.kdc_prelude.specs.Steps.{◌>>=◌}
 use Rattle.kdc_prelude.specs.Texts.{same_text}
@@ -22,7 +23,7 @@ use Rattle.kdc_records.specs.declared.ticket_rec.TicketRec.{TicketRec}
 use Rattle.kdc_records.specs.declared.wish.Wish.{Wish}
 use Rattle.kdc_records.specs.Bits.{bit_if, has_bit}
 use Rattle.kdc_records.specs.Decisions.{decided}
-use Rattle.kdc_records.specs.Wishes.{end_by, session_type}
+use Rattle.kdc_records.specs.Wishes.{end_by, session_type, end_is_later}
 use Rattle.dir_records.specs.declared.records.Account.{Account as AccountRec}
 use Rattle.dir_records.specs.declared.records.RealmRec.{RealmRec}
 use Rattle.dir_records.specs.DirectoryValue.{DirectoryValue}
@@ -30,7 +31,7 @@ use Rattle.dir_core.specs.Lookups.{account_at}
 use Rattle.route_rules.specs.Aims.{resolve_account}
 use Rattle.route_rules.specs.Cross.{is_reached_subject, is_reached_way, issuing_realm}
 use Rattle.s4u_rules.specs.Conditions.{lists_target}
-use Rattle.s4u_rules.specs.TgsRules.{end_is_later, is_local, issuer_is_appended, longest_life, requestor_record}
+use Rattle.s4u_rules.specs.TgsRules.{is_local, issuer_is_appended, requestor_record}
 
 -- ---- the evidence: the additional ticket, as the rules see it
 
@@ -100,8 +101,8 @@ abbrev pub is_forwardable : TicketRec → Bool
 is_forwardable evidence = has_bit 1 evidence.flags
 
 -- the user is not marked: USER_NOT_DELEGATED is clear (MS-PAC, section 2.5)
-abbrev pub user_may_be_delegated : TicketRec → Bool
-user_may_be_delegated evidence = not (has_bit 17 evidence.subject.control)
+abbrev pub user_is_unmarked : TicketRec → Bool
+user_is_unmarked evidence = not (has_bit 17 evidence.subject.control)
 
 -- P9: the evidence is forwardable, or resource-based delegation is asked for (MS-SFU, section 3.2.5.2)
 abbrev pub evidence_may_be_used : Wish → TicketRec → Bool
@@ -109,7 +110,7 @@ evidence_may_be_used wish evidence = is_forwardable evidence || wish.rbcd
 
 -- P10: the evidence is forwardable, or its user is not marked (MS-SFU, section 3.2.5.2.3)
 abbrev pub user_is_delegable : TicketRec → Bool
-user_is_delegable evidence = is_forwardable evidence || user_may_be_delegated evidence
+user_is_delegable evidence = is_forwardable evidence || user_is_unmarked evidence
 
 -- constrained delegation by the requestor's own list: a requestor of this realm, a forwardable evidence, and a target with a
 -- service principal name of that list (MS-SFU, section 3.2.5.2)
@@ -123,7 +124,7 @@ by_own_list dir at header evidence target =
 -- (MS-SFU, section 3.2.5.2)
 abbrev pub by_targets_list : Wish → TicketRec → TicketRec → AccountRec → Bool
 by_targets_list wish header evidence target =
-    wish.rbcd && user_may_be_delegated evidence && list_any (same_sid header.subject.sid) target.resource
+    wish.rbcd && user_is_unmarked evidence && list_any (same_sid header.subject.sid) target.resource
 
 -- the target is an account of this realm, and it or the requestor lists the other
 abbrev pub by_lists : DirectoryValue → ℕ → Wish → TicketRec → TicketRec → Option AccountRec → Bool
@@ -133,7 +134,7 @@ by_lists dir at wish header evidence target =
 -- a referral to the realm of a target that is another realm's account: resource-based delegation is asked for, and the user is not
 -- marked; whether the target lists the requestor is for its realm to say (MS-SFU, section 3.2.5.2)
 abbrev pub by_referral : DirectoryValue → ℕ → Wish → TicketRec → Bool
-by_referral dir at wish evidence = target_is_account dir at wish && wish.rbcd && user_may_be_delegated evidence
+by_referral dir at wish evidence = target_is_account dir at wish && wish.rbcd && user_is_unmarked evidence
 
 -- P11: the target is an account of this realm, and it or the requestor lists the other; or it is an account of another realm, and the
 -- request is referred there (MS-SFU, section 3.2.5.2)

@@ -5,12 +5,12 @@ ghost use Rattle.s4u_rules.specs.Outcomes.{IsVerdict};
 ghost use Rattle.proxy_rules.specs.EvidenceViews.{evidence_seen};
 ghost use Rattle.proxy_rules.specs.ProxyRules.{delegation_rules, evidence_rules, proxy_decision, proxy_rules};
 
-use crate::delegation_rules::{chain_is_short, delegation_is_allowed, end_is_later, proxy_end};
+use crate::delegation_rules::{chain_is_short, delegation_is_allowed, proxy_end};
 use crate::evidence::{EvidenceView, ShownView};
 use crate::evidence_rules::*;
 use crate::grant::proxy_terms;
 use dir_core::Directory;
-use kdc_records::{Aim, Decision, Rule, TicketRec, Wish, require};
+use kdc_records::{Aim, Decision, Rule, TicketRec, Wish, end_is_later, require};
 use krb_names::Moment;
 
 /// The first of P6 to P10 that fails.

@@ -2,10 +2,9 @@
 ghost use Rattle.std.specs.Prelude.{◌≡◌, ◌<◌, length, min};
 ghost use Rattle.std.specs.Option.{option_copied};
 ghost use Rattle.s4u_rules.specs.Conditions.{lists_target};
-ghost use Rattle.s4u_rules.specs.TgsRules.{end_is_later};
 ghost use Rattle.proxy_rules.specs.ProxyRules.{by_lists, by_own_list, by_referral, by_targets_list, chain_is_short, delegation_is_allowed, proxy_end, services_of, target_is_account};
 
-use crate::evidence_rules::{is_forwardable, user_may_be_delegated};
+use crate::evidence_rules::{is_forwardable, user_is_unmarked};
 use crate::parties::{requestor_is_local, requestor_record};
 use dir_core::{Account, Directory, has_text};
 use dir_records::is_among;
@@ -49,7 +48,7 @@ fn by_targets_list(wish: &Wish, header: &TicketRec, evidence: &TicketRec, target
     ensures { result ≡ by_targets_list wish.now header.now evidence.now target.now }
 {
     wish.rbcd
-        && user_may_be_delegated(evidence)
+        && user_is_unmarked(evidence)
         && is_among(&header.subject.sid, target.resource.as_slice())
 }
 
@@ -90,7 +89,7 @@ fn by_referral(dir: &Directory, realm: u32, wish: &Wish, evidence: &TicketRec) -
     requires { realm < length dir.now.realms }
     ensures { result ≡ by_referral dir.now realm wish.now evidence.now }
 {
-    target_is_account(dir, realm, wish) && wish.rbcd && user_may_be_delegated(evidence)
+    target_is_account(dir, realm, wish) && wish.rbcd && user_is_unmarked(evidence)
 }
 
 /// P11: the target is an account of this realm, and it or the requestor lists the other; or it is an account of another
@@ -164,11 +163,4 @@ pub(crate) fn proxy_end(
         wish.till,
         earlier(longest, earlier(header.end, evidence.end)),
     )
-}
-
-/// T1: the end is later than now.
-pub(crate) fn end_is_later(now: Moment, end: KTime) -> bool
-    ensures { result ≡ end_is_later now end }
-{
-    now.secs < end.secs()
 }

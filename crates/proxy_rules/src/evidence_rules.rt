@@ -1,7 +1,7 @@
 //! The rules of an evidence, each by its name (MS-SFU, section 3.2.5.2).
 ghost use Rattle.std.specs.Prelude.{◌≡◌, ◌<◌, length};
 ghost use Rattle.std.specs.Option.{option_copied};
-ghost use Rattle.proxy_rules.specs.ProxyRules.{cross_evidence_agrees, evidence_agrees, evidence_is_reached, evidence_lasts, evidence_may_be_used, is_delegated_to, is_forwardable, last_of, user_is_delegable, user_may_be_delegated};
+ghost use Rattle.proxy_rules.specs.ProxyRules.{cross_evidence_agrees, evidence_agrees, evidence_is_reached, evidence_lasts, evidence_may_be_used, is_delegated_to, is_forwardable, last_of, user_is_delegable, user_is_unmarked};
 
 use crate::evidence::ShownView;
 use dir_core::Directory;
@@ -87,8 +87,8 @@ pub(crate) fn is_forwardable(evidence: &TicketRec) -> bool
 }
 
 /// Whether the user is not marked.
-pub(crate) fn user_may_be_delegated(evidence: &TicketRec) -> bool
-    ensures { result ≡ user_may_be_delegated evidence.now }
+pub(crate) fn user_is_unmarked(evidence: &TicketRec) -> bool
+    ensures { result ≡ user_is_unmarked evidence.now }
 {
     !has_bit(evidence.subject.control, USER_NOT_DELEGATED)
 }
@@ -104,5 +104,5 @@ pub(crate) fn evidence_may_be_used(wish: &Wish, evidence: &TicketRec) -> bool
 pub(crate) fn user_is_delegable(evidence: &TicketRec) -> bool
     ensures { result ≡ user_is_delegable evidence.now }
 {
-    is_forwardable(evidence) || user_may_be_delegated(evidence)
+    is_forwardable(evidence) || user_is_unmarked(evidence)
 }

@@ -9,8 +9,10 @@ use Rattle.std.proofs.lemmas.List.Splits.{join_with_byte-slice_split}
 use Rattle.kdc_prelude.specs.Texts.{is_one_of, same_text}
 use Rattle.kdc_prelude.specs.Verdicts.{first_failing, ◌or_else◌}
 use Rattle.kdc_prelude.proofs.Bools.{both}
+use Rattle.kdc_prelude.proofs.Verdicts.{neither}
+use Rattle.kdc_prelude.specs.Results.{unless_refused}
 use Rattle.krb_names.specs.declared.refusal.NameRefusal.TheVariants.{Empty, TooLong, BadText}
-use Rattle.krb_names.specs.Pieces.{has_forbidden, is_empty, is_long, unless}
+use Rattle.krb_names.specs.Pieces.{has_forbidden, is_empty, is_long}
 use Rattle.krb_names.specs.Spns.{spn_pieces, spn_reading}
 use Rattle.dir_records.specs.declared.records.Account.{Account}
 use Rattle.dir_records.specs.declared.records.RealmRec.{RealmRec}
@@ -22,7 +24,7 @@ use Rattle.dir_records.specs.DirectoryValue.{DirectoryValue}
 use Rattle.dir_records.specs.Forms.{is_service_name}
 use Rattle.dir_records.specs.Members.{account_fault, accounts_refusal, identity_rows, list_rows, members_refusal, realm_refusal, realm_rows, realms_refusal, refused_at, trusts_refusal, whole_rows}
 use Rattle.dir_records.specs.WellFormed.{clash_refusal, first_refusal, has_few_spent, is_well_formed}
-use Rattle.dir_records.proofs.Bounds.{from_none, neither}
+use Rattle.dir_records.proofs.Bounds.{from_none}
 use Rattle.dir_core.specs.Lookups.{first_place, has_spn, spn_place, spn_place_from}
 
 -- ---- a service principal name is short
@@ -54,7 +56,7 @@ joined_pieces (a ∷ b ∷ d ∷ []) few short =
 joined_pieces (a ∷ b ∷ d ∷ e ∷ more) few short = absurd (omega (arith, few))
 
 no_fault_in : (empty long other : Bool) (text : List ℕ)
-    → is_ok (unless (if empty then Some Empty else (if long then Some TooLong else (if other then Some BadText else None))) text) ≡ true → (long ≡ false) × (other ≡ false)
+    → is_ok (unless_refused (if empty then Some Empty else (if long then Some TooLong else (if other then Some BadText else None))) text) ≡ true → (long ≡ false) × (other ≡ false)
 no_fault_in true long other text h = absurd (cc)
 no_fault_in false true other text h = absurd (cc)
 no_fault_in false false true text h = absurd (cc)

@@ -1,4 +1,4 @@
--- What a cross-realm ticket-granting ticket may tell at the realm that it is for (RFC 4120, section 2.7; MS-PAC, section 4.1.2.2).
+-- What a ticket of another realm, a header or evidence, may tell at the realm that it is for (RFC 4120, section 2.7; MS-PAC, section 4.1.2.2).
 use Rattle.std.specs.Prelude.{ℕ, ◌&&◌, Bool, true, nat_lt, List, [], ◌∷◌, length, Option, None, Some, slice_get}
 use Rattle.std.specs.List.{list_all}
 use Rattle.kdc_prelude.specs.Options.{holds_of}

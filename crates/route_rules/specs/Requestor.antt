@@ -1,4 +1,4 @@
--- The account that asks (MS-SFU, section 3.2.5), as P2 looks it up today; it is the one that G13 and S4 speak of.
+-- The account that asks (MS-SFU, section 3.2.5), as P2 looks it up; it is the one that G13 and S4 speak of.
 use Rattle.std.specs.Prelude.{ℕ, Option, None, slice_get, if◌then◌else◌}
 use Rattle.kdc_prelude.specs.Steps.{◌>>=◌}
 use Rattle.kdc_prelude.specs.Texts.{same_text}

@@ -1,21 +1,19 @@
 -- What the client sends can be written, and how long it is.
-use Rattle.std.proofs.Common.{◌≡◌, ℕ, ◌+◌, ◌*◌, ◌<◌, ◌≤◌, ◌^◌, Bool, true, false, List, [], ◌∷◌, length, ℤ, pos, Option, Some, None, Result, Ok, Err, refl, sym, ap, ◌∙◌, length-append, arith}
+use Rattle.std.proofs.Common.{◌≡◌, ℕ, ◌+◌, ◌<◌, ◌≤◌, ◌^◌, List, length, pos, Option, Some, None, Result, Ok, Err, refl, ap, arith}
 use Rattle.std.specs.Prelude.{FitsSigned, IfOk, IfSome}
-use Rattle.std.specs.Int.{w32, w64}
-use Rattle.std.specs.List.{flat_map, AllByRecursion}
+use Rattle.std.specs.Int.{w32}
 use Rattle.std.proofs.lemmas.Bool.Decides.{nat_tests}
 use Rattle.std.proofs.lemmas.Int.{ints}
-use Rattle.std.proofs.lemmas.List.Concat.{flat_map-cons}
 use Rattle.der_core.specs.BitStrings.{bit_string}
 use Rattle.der_core.specs.Elements.{element}
-use Rattle.der_core.specs.Forms.{int, int32, number_is, octets, text, uint32}
+use Rattle.der_core.specs.Forms.{int, int32, number_is, octets, uint32}
 use Rattle.der_core.specs.Integers.{integer}
 use Rattle.der_core.specs.IntegerLaws.{integer_spelt}
 use Rattle.der_forms.specs.Keys.{encryption_key}
 use Rattle.der_forms.specs.Lists.{sequence_of}
 use Rattle.der_forms.specs.Names.{realm}
-use Rattle.der_forms.specs.Times.{kerberos_time, moment_time}
-use Rattle.der_forms.specs.Values.{flags as flag_bits, micros, nonce as nonce_number}
+use Rattle.der_forms.specs.Times.{moment_time}
+use Rattle.der_forms.specs.Values.{flags as flag_bits, micros}
 use Rattle.krb_names.specs.declared.etype.Etype.{Etype}
 use Rattle.krb_names.specs.declared.etype.Etype.TheVariants.{Aes128, Aes256}
 use Rattle.krb_names.specs.declared.key.Key.{Key}
@@ -24,31 +22,24 @@ use Rattle.krb_names.specs.declared.principal.Principal.{Principal}
 use Rattle.krb_names.specs.Etypes.{etype_number}
 use Rattle.krb_names.proofs.TimeLaw.{written_again}
 use Rattle.krb_tickets.specs.declared.encrypted_data.EncryptedData.{EncryptedData}
-use Rattle.krb_tickets.specs.declared.ticket.Ticket.{Ticket}
 use Rattle.krb_tickets.specs.AuthItem.{auth_item}
 use Rattle.krb_tickets.specs.EncryptedData.{encrypted_data}
 use Rattle.krb_tickets.specs.EncryptedData as sealed_form
-use Rattle.krb_tickets.specs.HostAddress.{host_address}
-use Rattle.krb_tickets.specs.PrincipalName.{in_realm, name_of, principal_name}
+use Rattle.krb_tickets.specs.PrincipalName.{name_of, principal_name}
 use Rattle.krb_tickets.specs.Ticket.{ticket}
-use Rattle.krb_tickets.specs.Transited.{is_realm}
-use Rattle.ticket_laws.specs.Writable.{are_parts}
 use Rattle.ticket_laws.proofs.Fields.{Within, dropped_within, end_within, field_within, optional_within}
 use Rattle.ticket_laws.proofs.Sizes.{element_within}
 use Rattle.ticket_laws.proofs.Texts.{realm_fits, realm_short}
-use Rattle.ticket_laws.proofs.Values.{etype_fits, int32_fits, int32_within, key_fits, key_within, name_fits, name_within, number_fits, number_within, time_within}
+use Rattle.ticket_laws.proofs.Values.{int32_fits, int32_within, key_fits, key_within, name_fits, name_within, number_fits, number_within, time_within}
 use Rattle.krb_messages.specs.declared.authenticator.Authenticator.{Authenticator}
 use Rattle.krb_messages.specs.declared.ap_req.ApReq.{ApReq}
 use Rattle.krb_messages.specs.declared.checksum.Checksum.{Checksum}
-use Rattle.krb_messages.specs.declared.pa_data.PaData.{PaData}
 use Rattle.krb_messages.specs.ApReq.{ap_req}
 use Rattle.krb_messages.specs.ApReq as ap_form
 use Rattle.krb_messages.specs.Authenticator.{authenticator}
 use Rattle.krb_messages.specs.Authenticator as auth_form
 use Rattle.krb_messages.specs.Checksum.{checksum_form}
 use Rattle.krb_messages.specs.Checksum as sum_form
-use Rattle.krb_messages.specs.PaData.{pa_data}
-use Rattle.krb_messages.specs.PaData as pa_form
 use Rattle.krb_messages.specs.PaEncTsEnc.{pa_enc_ts_enc}
 use Rattle.krb_messages.specs.PaEncTsEnc as stamp_form
 use Rattle.s4u_client.specs.declared.cred.Cred.{Cred}

@@ -4,3 +4,10 @@ pub mod RequestForms
 pub mod UserForms
 pub mod Replies
 pub mod Steps
+pub mod SealedSizes
+pub mod Rc4Sums
+pub mod ReadBack
+pub mod AuthBytes
+pub mod Opens
+pub mod DifferingTexts
+pub mod Differences

@@ -1,5 +1,5 @@
 -- What is known of a reply that was read: how long its ticket and its sealed part are, and that its names can be written.
-use Rattle.std.proofs.Common.{◌≡◌, ℕ, ◌≤◌, true, pos, List, length, Ok, Err, subst, ap, length-append, arith}
+use Rattle.std.proofs.Common.{◌≡◌, ℕ, ◌≤◌, ◌^◌, true, pos, List, length, Ok, Err, subst, ap, length-append, arith}
 use Rattle.std.specs.Prelude.{IfOk, Result}
 use Rattle.der_core.specs.Codec.{Codec}
 use Rattle.der_core.specs.CodecLaws.{IsBytes-content}
@@ -27,8 +27,9 @@ use Rattle.krb_messages.specs.declared.kdc_rep.KdcRep.{KdcRep}
 use Rattle.krb_messages.specs.EncKdcRep.{enc_kdc_rep}
 use Rattle.krb_messages.specs.KdcRep.{is_as_rep, kdc_rep, msg_type_of}
 use Rattle.krb_messages.specs.PaData.{pa_data}
+use Rattle.s4u_client.specs.declared.cred.Cred.{Cred}
 use Rattle.s4u_client.specs.Finishing.{IsFound, IsReply, cred_of}
-use Rattle.s4u_client.specs.Writable.{IsName}
+use Rattle.s4u_client.specs.Writable.{IsCred, IsName}
 
 -- ---- how long it is
 
@@ -110,7 +111,7 @@ reply_is bytes (Err fault) well d fits = tt
 
 -- ---- its names
 
-client_is_name : (x : KdcRep) → kdc_rep.Fits x → IsName x.cname
+pub client_is_name : (x : KdcRep) → kdc_rep.Fits x → IsName x.cname
 unfolding kdc_rep
 client_is_name x fits =
     let of_realm = fits.1.1.1.1.0 in
@@ -126,7 +127,7 @@ ticket_fits : (x : KdcRep) → kdc_rep.Fits x → ticket.Fits x.ticket
 unfolding kdc_rep
 ticket_fits x fits = fits.1.1.1.1.1.1.0
 
-server_is_name : (x : EncKdcRep) → enc_kdc_rep.Fits x → IsName x.sname
+pub server_is_name : (x : EncKdcRep) → enc_kdc_rep.Fits x → IsName x.sname
 unfolding enc_kdc_rep
 server_is_name x fits =
     let of_realm = fits.1.1.1.1.1.1.1.1.1.1.0 in
@@ -149,4 +150,12 @@ cred_is_found bytes reply part is_reply fits = record {
   fits = ticket_fits reply is_reply.fits;
   short = is_reply.short;
   key_padding = key_is_padded part fits;
+}
+
+pub found_is_cred : (bytes : List ℕ) (cred : Cred) → IsFound bytes cred → length bytes ≤ 2 ^ 27 → IsCred cred
+found_is_cred bytes cred found few = record {
+  client = found.client;
+  server = found.server;
+  shown = record { fits = found.fits; short = let own = found.short in omega (arith, own, few) };
+  key_padding = found.key_padding;
 }

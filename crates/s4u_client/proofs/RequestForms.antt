@@ -1,7 +1,6 @@
 -- Requests can be written, and how long they are.
-use Rattle.std.proofs.Common.{◌≡◌, ℕ, ◌+◌, ◌*◌, ◌<◌, ◌≤◌, ◌^◌, Bool, true, false, List, [], ◌∷◌, ◌++◌, length, ℤ, pos, Option, Some, None, refl, sym, ap, ◌∙◌, length-append, arith}
-use Rattle.std.specs.Prelude.{FitsSigned, IfSome, is_some, option_map}
-use Rattle.std.specs.Int.{w32}
+use Rattle.std.proofs.Common.{◌≡◌, ℕ, ◌+◌, ◌*◌, ◌<◌, ◌≤◌, ◌^◌, Bool, true, false, List, [], ◌∷◌, ◌++◌, length, pos, Option, Some, None, refl, ap, length-append, arith}
+use Rattle.std.specs.Prelude.{IfSome, is_some, option_map}
 use Rattle.std.specs.List.{flat_map, AllByRecursion}
 use Rattle.std.proofs.lemmas.List.Concat.{flat_map-cons}
 use Rattle.der_core.specs.BitStrings.{bit_string}
@@ -23,9 +22,9 @@ use Rattle.krb_tickets.specs.HostAddress.{host_address}
 use Rattle.krb_tickets.specs.PrincipalName.{name_of, principal_name, unnamed}
 use Rattle.krb_tickets.specs.Ticket.{ticket}
 use Rattle.ticket_laws.proofs.Fields.{Within, dropped_within, end_within, field_within, optional_within}
-use Rattle.ticket_laws.proofs.Sizes.{append_within, element_within}
+use Rattle.ticket_laws.proofs.Sizes.{element_within}
 use Rattle.ticket_laws.proofs.Texts.{realm_fits, realm_short}
-use Rattle.ticket_laws.proofs.Values.{int32_fits, int32_within, name_fits, name_within, number_fits, number_within, time_within}
+use Rattle.ticket_laws.proofs.Values.{int32_fits, int32_within, name_fits, name_within, number_within, time_within}
 use Rattle.krb_messages.specs.declared.kdc_req.KdcReq.{KdcReq}
 use Rattle.krb_messages.specs.declared.kdc_req_body.KdcReqBody.{KdcReqBody}
 use Rattle.krb_messages.specs.declared.pa_data.PaData.{PaData}
@@ -36,7 +35,6 @@ use Rattle.krb_messages.specs.KdcReqBody as body_form
 use Rattle.krb_messages.specs.KdcReqLaws.{IsOwn}
 use Rattle.krb_messages.specs.PaData.{pa_data}
 use Rattle.krb_messages.specs.PaData as pa_form
-use Rattle.kdc_records.specs.Bits.{bit_if}
 use Rattle.s4u_client.specs.declared.cred.Want.{Want}
 use Rattle.s4u_client.specs.Requests.{asked_in, body_of, options_of, request_of, tickets_of}
 use Rattle.s4u_client.specs.Writable.{AreShort, IsName, IsShortItem, IsShortTicket, IsWant}

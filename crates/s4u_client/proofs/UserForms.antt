@@ -1,13 +1,12 @@
 -- The padata of S4U requests can be written, and how long they are.
-use Rattle.std.proofs.Common.{◌≡◌, ℕ, ◌+◌, ◌<◌, ◌≤◌, ◌^◌, true, List, [], length, pos, negsuc, Some, refl, sym, subst, arith}
+use Rattle.std.proofs.Common.{◌≡◌, ◌+◌, ◌≤◌, true, [], length, pos, negsuc, refl, sym, subst, arith}
 use Rattle.std.specs.Prelude.{FitsSigned, codes}
 use Rattle.std.specs.Int.{w32}
 use Rattle.std.specs.Str.{is_utf8}
-use Rattle.std.specs.Str.{IsAscii, is_utf8}
+use Rattle.std.specs.Str.{is_utf8}
 use Rattle.std.proofs.lemmas.Str.{IsUtf8-from_ascii, is_utf8-from_IsUtf8}
 use Rattle.std.proofs.lemmas.Str.Ascii.{IsAscii-cons, IsAscii-nil}
-use Rattle.der_core.specs.Elements.{element}
-use Rattle.der_core.specs.Forms.{int32, octets, text}
+use Rattle.der_core.specs.Forms.{octets, text}
 use Rattle.der_core.specs.Integers.{integer}
 use Rattle.der_core.specs.IntegerLaws.{integer_spelt}
 use Rattle.der_forms.specs.Defaults.{defaulted}
@@ -22,8 +21,7 @@ use Rattle.krb_tickets.specs.PrincipalName.{name_of, principal_name}
 use Rattle.ticket_laws.proofs.Fields.{Within, dropped_within, end_within, field_within, optional_within}
 use Rattle.ticket_laws.proofs.Sizes.{element_within}
 use Rattle.ticket_laws.proofs.Texts.{realm_fits, realm_short}
-use Rattle.ticket_laws.proofs.Values.{int32_fits, int32_within, name_fits, name_within}
-use Rattle.krb_messages.specs.declared.checksum.Checksum.{Checksum}
+use Rattle.ticket_laws.proofs.Values.{name_fits, name_within}
 use Rattle.krb_messages.specs.Checksum.{checksum_form}
 use Rattle.s4u_padata.specs.declared.for_user.ForUser.{ForUser}
 use Rattle.s4u_padata.specs.declared.user_id.UserId.{UserId}

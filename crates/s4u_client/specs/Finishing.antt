@@ -168,3 +168,11 @@ pub record IsFound (bytes : List ℕ) (cred : Cred) : Type 0 where
   pub fits : ticket.Fits cred.ticket
   pub short : length (ticket.spelling cred.ticket) ≤ length bytes
   pub key_padding : is_padded cred.session ≡ true
+
+-- what was sent is not what came, also in words
+abbrev pub TextsDiffer : FinishFault → Type 0
+TextsDiffer (Differs field sent got) = sent ≢ got
+TextsDiffer (Denied code text) = Unit {0}
+TextsDiffer (Unreadable place) = Unit {0}
+TextsDiffer NotOpened = Unit {0}
+TextsDiffer NoMemory = Unit {0}

@@ -1,3 +1,4 @@
 pub mod Requests
 pub mod Writable
 pub mod Finishing
+pub mod Reads

@@ -158,7 +158,7 @@ fn request_for(
     ensures short { IfOk result (λ made. length made < 2 ^ 30) }
 {
     let body = body_of(alloc, want, client, evidence)?;
-    request_bytes(alloc, is_as, padata, body, bytes)
+    request_bytes(is_as, padata, body, bytes)
 }
 
 /// What is kept of a TGS-REQ for this client.

@@ -117,7 +117,6 @@ fn request_of(is_as: bool, padata: PaItems, body: KdcReqBody, body_bytes: Bytes)
 
 /// Its bytes.
 pub(crate) fn request_bytes(
-    alloc: Global,
     is_as: bool,
     padata: PaItems,
     body: KdcReqBody,
@@ -131,5 +130,5 @@ pub(crate) fn request_bytes(
     ensures short { IfOk result (λ bytes. length bytes < 2 ^ 30) }
 {
     let message = request_of(is_as, padata, body, body_bytes);
-    write_request(alloc, &message)
+    write_request(&message)
 }

@@ -1,5 +1,5 @@
 //! A reply becomes a credential (RFC 4120, sections 3.1.5, 3.3.4 and 5.4.2).
-ghost use Rattle.std.specs.Prelude.{◌≡◌, ◌≤◌, ◌<◌, ◌^◌, IfOk, IfSome, length, option_map, slice_range, unwrap_or, []};
+ghost use Rattle.std.specs.Prelude.{◌≡◌, ◌≤◌, ◌<◌, ◌^◌, IfErr, IfOk, IfSome, length, option_map, slice_range, unwrap_or, []};
 ghost use Rattle.kdc_prelude.specs.Answers.{Answers};
 ghost use Rattle.der_core.specs.Codec.{whole};
 ghost use Rattle.der_forms.specs.Choices.{tag_in};
@@ -7,7 +7,8 @@ ghost use Rattle.der_forms.specs.Fields.{begins};
 ghost use Rattle.krb_crypto.specs.Encryption.{opened};
 ghost use Rattle.krb_messages.specs.EncKdcRep.{enc_kdc_rep};
 ghost use Rattle.krb_messages.specs.KrbError.{krb_error};
-ghost use Rattle.s4u_client.specs.Finishing.{IsFound, IsReply, awaits_as, cred_of, finished, not_denied, part_in, part_of, readable, reply_in};
+ghost use Rattle.s4u_client.specs.Finishing.{IsFound, IsReply, TextsDiffer, awaits_as, cred_of, finished, not_denied, part_in, part_of, readable, reply_in};
+ghost use Rattle.s4u_client.specs.Writable.{IsCred, IsName, IsWant};
 
 use crate::compare::compare;
 use crate::cred::{Cred, Pending};
@@ -160,6 +161,9 @@ pub fn finish(alloc: Global, pending: &Pending, reply: &[u8]) -> Result<Cred, Fi
     ensures exact { Answers FinishFault.NoMemory result (finished pending.now reply.now) }
     // The credential can be used in a request.
     ensures found { IfOk result (IsFound reply.now) }
+    ensures cred { length reply.now ≤ 2 ^ 27 → IfOk result IsCred }
+    // The two texts of a difference differ, for what a request keeps.
+    ensures cause { IsName pending.now.client → IsWant pending.now.want → IfErr result TextsDiffer }
 {
     not_denied(alloc, reply)?;
     let message = reply_in(alloc, pending, reply)?;

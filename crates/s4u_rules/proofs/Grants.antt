@@ -1,8 +1,10 @@
 -- What a TGS-REQ that no rule denies is known to be.
-use Rattle.std.proofs.Common.{◌≡◌, ◌∙◌, ℕ, Bool, true, false, List, [], ◌∷◌, drop, refl, sym}
+use Rattle.std.proofs.Common.{◌≡◌, ◌∙◌, ℕ, Bool, true, [], drop, refl, sym}
 use Rattle.std.specs.Prelude.{Option, None, Some, is_some}
+use Rattle.kdc_prelude.proofs.Verdicts.{passes}
 use Rattle.kdc_prelude.specs.Options.{holds_of}
 use Rattle.kdc_prelude.specs.Verdicts.{first_failing}
+use Rattle.kdc_records.specs.Wishes.{end_is_later, start_is_now}
 use Rattle.krb_names.specs.declared.moment.Moment.{Moment}
 use Rattle.kdc_records.specs.declared.decision.Aim.{Aim}
 use Rattle.kdc_records.specs.declared.decision.Terms.{Terms}
@@ -17,12 +19,7 @@ use Rattle.s4u_rules.specs.Granted.{EndsLater, HeaderGrants, SelfGrants}
 use Rattle.s4u_rules.specs.Headers.{SeenHeader, Shown, ShownHeader, Wrong}
 use Rattle.s4u_rules.specs.SelfRules.{SeenSelf, self_decision, self_rules, self_terms, self_verdict, server_is_the_requestor, user_fits_header, user_is_enabled, user_is_known}
 use Rattle.s4u_rules.specs.SelfRules as selves
-use Rattle.s4u_rules.specs.TgsRules.{aim_is_allowed, aim_is_enabled, aim_may_be_asked, aim_of, end_is_later, end_within, etype_is_listed, header_has_begun, header_is_certified, header_is_own, header_lasts, header_rules, header_verdict, options_are_plain, ordinary_decision, ordinary_rules, ordinary_terms, requestor_is_enabled, requestor_is_known, stamp_is_fresh, start_is_now}
-
--- the first row holds, and no later one fails
-passes : {R : Type 0} (rule : R) (b : Bool) (rows : List (R × Bool)) → first_failing ((rule, b) ∷ rows) ≡ None → (b ≡ true) × (first_failing rows ≡ None)
-passes rule true rows h = (refl, h)
-passes rule false rows h = absurd (cc)
+use Rattle.s4u_rules.specs.TgsRules.{aim_is_allowed, aim_is_enabled, aim_may_be_asked, aim_of, end_within, etype_is_listed, header_has_begun, header_is_certified, header_is_own, header_lasts, header_rules, header_verdict, options_are_plain, ordinary_decision, ordinary_rules, ordinary_terms, requestor_is_enabled, requestor_is_known, stamp_is_fresh}
 
 found : {X : Type 0} (test : X → Bool) (x : Option X) → holds_of test x ≡ true → (y : X) × (x ≡ Some y) × (test y ≡ true)
 found test None h = absurd (cc)

@@ -1,5 +1,6 @@
 -- The table of the header's rules in its parts.
-use Rattle.std.proofs.Common.{◌≡◌, ◌∙◌, ℕ, Bool, true, false, List, [], ◌∷◌, ◌++◌, Option, None, Some, refl, ap}
+use Rattle.std.proofs.Common.{◌≡◌, ◌∙◌, ℕ, ◌++◌, Option, None, Some, ap}
+use Rattle.kdc_prelude.proofs.Verdicts.{failing_append}
 use Rattle.kdc_prelude.specs.Verdicts.{first_failing, ◌or_else◌}
 use Rattle.krb_names.specs.declared.moment.Moment.{Moment}
 use Rattle.kdc_records.specs.declared.rule.Rule.{Rule}
@@ -8,11 +9,6 @@ use Rattle.kdc_records.specs.declared.wish.Wish.{Wish}
 use Rattle.dir_records.specs.DirectoryValue.{DirectoryValue}
 use Rattle.s4u_rules.specs.Headers.{ShownHeader}
 use Rattle.s4u_rules.specs.TgsRules.{header_rules, opened_rules, party_rules, wish_rules}
-
-failing_append : {R : Type 0} (xs ys : List (R × Bool)) → first_failing (xs ++ ys) ≡ (first_failing xs or_else first_failing ys)
-failing_append [] ys = refl
-failing_append ((rule, true) ∷ xs) ys = failing_append xs ys
-failing_append ((rule, false) ∷ xs) ys = refl
 
 -- a rule of what was opened
 pub opened_fails : (dir : DirectoryValue) (at : ℕ) (now : Moment) (wish : Wish) (header : ShownHeader) (rule : Rule)

@@ -1,5 +1,6 @@
 -- What a TGS-REQ that is granted is known to be: a fact a rule.
 use Rattle.std.specs.Prelude.{◌≡◌, ℕ, true, Some}
+use Rattle.kdc_records.specs.Wishes.{end_is_later, start_is_now}
 use Rattle.krb_names.specs.declared.moment.Moment.{Moment}
 use Rattle.krb_names.specs.declared.principal.Principal.{Principal}
 use Rattle.kdc_records.specs.declared.decision.Aim.{Aim}
@@ -10,7 +11,7 @@ use Rattle.route_rules.specs.Cross.{is_reached_subject, is_reached_way}
 use Rattle.s4u_rules.specs.Headers.{SeenHeader, Shown, ShownHeader}
 use Rattle.s4u_rules.specs.SelfRules.{SeenSelf, server_is_the_requestor, user_fits_header, user_is_enabled, user_is_known}
 use Rattle.s4u_rules.specs.SelfRules as selves
-use Rattle.s4u_rules.specs.TgsRules.{aim_is_allowed, aim_is_enabled, aim_of, end_is_later, end_within, etype_is_listed, header_has_begun, header_is_own, header_lasts, options_are_plain, requestor_is_enabled, requestor_is_known, stamp_is_fresh, start_is_now}
+use Rattle.s4u_rules.specs.TgsRules.{aim_is_allowed, aim_is_enabled, aim_of, end_within, etype_is_listed, header_has_begun, header_is_own, header_lasts, options_are_plain, requestor_is_enabled, requestor_is_known, stamp_is_fresh}
 
 -- by its header, which was opened and has a record, and by what it asks for, which aims at something
 pub record HeaderGrants (dir : DirectoryValue) (at : ℕ) (now : Moment) (wish : Wish) (seen : SeenHeader) : Type 0 where

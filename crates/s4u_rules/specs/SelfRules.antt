@@ -5,6 +5,7 @@ use Rattle.kdc_prelude.specs.Options.{holds_of}
 use Rattle.kdc_prelude.specs.Steps.{◌>>=◌}
 use Rattle.kdc_prelude.specs.Texts.{same_text}
 use Rattle.kdc_prelude.specs.Verdicts.{first_failing}
+use Rattle.kdc_records.specs.Wishes.{end_is_later}
 use Rattle.krb_names.specs.declared.moment.Moment.{Moment}
 use Rattle.krb_names.specs.declared.principal.Principal.{Principal}
 use Rattle.kdc_records.specs.declared.decision.Aim.{Aim}
@@ -26,7 +27,7 @@ use Rattle.dir_core.specs.Lookups.{account_at, account_named, only_part}
 use Rattle.route_rules.specs.Aims.{resolve_account}
 use Rattle.route_rules.specs.Meanings.{enterprise_pieces}
 use Rattle.s4u_rules.specs.Conditions.{has_spn, is_enabled, may_be_delegated}
-use Rattle.s4u_rules.specs.TgsRules.{end_is_later, end_within, is_for_its_client, issuer_is_appended, may_be_forwardable, terms_with}
+use Rattle.s4u_rules.specs.TgsRules.{end_within, is_for_its_client, issuer_is_appended, may_be_forwardable, terms_with}
 
 -- what was read of the padata of S4U2self
 pub data SeenSelf : Type 0 where
@@ -107,8 +108,8 @@ self_verdict dir at now wish rec Shown = first_failing (self_rules dir at now wi
 
 -- ---- what is granted
 
--- the user is marked DelegationNotAllowed (MS-SFU, section 3.2.1): by its account in this realm, or by USER_NOT_DELEGATED of the
--- header's user (MS-PAC, section 2.5)
+-- the user is not marked: neither DelegationNotAllowed (MS-SFU, section 3.2.1) of its account in this realm, nor, where it is of
+-- another, USER_NOT_DELEGATED of the header's user (MS-PAC, section 2.5)
 abbrev pub user_may_be_delegated : DirectoryValue → ℕ → TicketRec → Principal → Bool
 user_may_be_delegated dir at rec user =
     if user_is_local dir at user then holds_of may_be_delegated (user_record dir at user) else not (has_bit 17 rec.subject.control)

@@ -1,5 +1,5 @@
 -- The rules of a TGS-REQ whose header was opened (RFC 4120, section 3.3.3), and what an ordinary one is granted.
-use Rattle.std.specs.Prelude.{ℕ, ◌+◌, ◌-◌, ◌&&◌, ◌||◌, Bool, true, false, not, min, nat_le, nat_lt, List, [], ◌∷◌, ◌++◌, Option, Some, is_none, is_some, option_map, slice_get, unwrap_or}
+use Rattle.std.specs.Prelude.{ℕ, ◌+◌, ◌-◌, ◌&&◌, ◌||◌, Bool, true, false, not, min, nat_le, nat_lt, List, [], ◌∷◌, ◌++◌, Option, Some, is_none, is_some, slice_get}
 use Rattle.std.specs.List.{list_any}
 use Rattle.kdc_prelude.specs.Options.{holds_of}
 use Rattle.kdc_prelude.specs.Steps.{◌>>=◌}
@@ -23,10 +23,11 @@ use Rattle.kdc_records.specs.declared.wish.Wish.{Wish}
 use Rattle.kdc_records.specs.Bits.{bit_if, has_bit}
 use Rattle.kdc_records.specs.Decisions.{decided}
 use Rattle.kdc_records.specs.Parties.{is_user}
-use Rattle.kdc_records.specs.Wishes.{are_clear, end_by, session_type, starts_now}
+use Rattle.kdc_records.specs.Wishes.{are_clear, end_by, end_is_later, session_type, start_is_now}
 use Rattle.dir_records.specs.declared.records.Account.{Account as AccountRec}
 use Rattle.dir_records.specs.declared.records.RealmRec.{RealmRec}
 use Rattle.dir_records.specs.DirectoryValue.{DirectoryValue}
+use Rattle.dir_core.specs.Lives.{longest_life}
 use Rattle.dir_core.specs.Lookups.{account_at}
 use Rattle.route_rules.specs.Aims.{resolve}
 use Rattle.route_rules.specs.Cross.{is_reached_subject, is_reached_way, issuing_realm}
@@ -85,10 +86,6 @@ requestor_is_enabled dir at rec =
     holds_of (λ realm. not (is_local realm rec) || holds_of is_enabled (requestor_record dir at rec)) (slice_get dir.realms at)
 
 -- ---- what is asked for
-
--- G17: neither allow-postdate nor postdated is asked for, and from is absent or at most 300 seconds after now (own choice)
-abbrev pub start_is_now : Moment → Wish → Bool
-start_is_now now wish = starts_now now.secs wish
 
 -- G18: forwarded, proxy, enc-tkt-in-skey, renew and validate are not asked for, and not both forms of S4U at once (own choice)
 abbrev pub options_are_plain : Wish → Bool
@@ -171,17 +168,9 @@ header_verdict dir at now wish (Shown header) = first_failing (header_rules dir 
 
 -- ---- when a ticket ends, and what an ordinary one has
 
--- the longest life of a ticket of the realm at an index, in seconds
-abbrev pub longest_life : DirectoryValue → ℕ → ℕ
-longest_life dir at = unwrap_or (option_map (λ realm. realm.max_life) (slice_get dir.realms at)) 0
-
 -- as asked for, within the realm's longest life, and no later than the header
 abbrev pub end_within : DirectoryValue → ℕ → Moment → Wish → TicketRec → ℕ
 end_within dir at now wish rec = end_by wish.till (min (now.secs + longest_life dir at) rec.end)
-
--- T1: the end is later than now (RFC 4120, section 3.3.3)
-abbrev pub end_is_later : Moment → ℕ → Bool
-end_is_later now end = nat_lt now.secs end
 
 abbrev pub ordinary_rules : DirectoryValue → ℕ → Moment → Wish → TicketRec → List (Rule × Bool)
 ordinary_rules dir at now wish rec = (T1, end_is_later now (end_within dir at now wish rec)) ∷ []

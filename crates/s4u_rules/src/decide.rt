@@ -5,7 +5,7 @@ ghost use Rattle.s4u_rules.specs.Outcomes.{IsVerdict};
 ghost use Rattle.kdc_prelude.specs.Verdicts.{first_failing};
 ghost use Rattle.s4u_rules.specs.HeaderViews.{self_seen};
 ghost use Rattle.s4u_rules.specs.SelfRules.{self_appends, self_decision, self_flags, self_rules};
-ghost use Rattle.s4u_rules.specs.TgsRules.{end_is_later, end_within, may_be_forwardable, ordinary_decision, ordinary_flags, terms_with};
+ghost use Rattle.s4u_rules.specs.TgsRules.{end_within, may_be_forwardable, ordinary_decision, ordinary_flags, terms_with};
 
 use crate::header::SelfView;
 use crate::issuer::issuer_is_appended;
@@ -13,8 +13,8 @@ use crate::self_rules::*;
 use crate::self_user::user_is_local;
 use dir_core::Directory;
 use kdc_records::{
-    Aim, Decision, Rule, Terms, TicketRec, Wish, bit_if, end_by, has_bit, kdc_option, require,
-    session_type, ticket_flag,
+    Aim, Decision, Rule, Terms, TicketRec, Wish, bit_if, end_by, end_is_later, has_bit, kdc_option,
+    require, session_type, ticket_flag,
 };
 use krb_names::{KTime, Moment};
 
@@ -25,13 +25,6 @@ fn end_within(dir: &Directory, at: u32, now: Moment, wish: &Wish, rec: &TicketRe
 {
     let longest = now.secs + dir.realm(at).max_life;
     end_by(wish.till, KTime::new(longest.min(rec.end.secs())))
-}
-
-/// T1: the end is later than now.
-fn end_is_later(now: Moment, end: KTime) -> bool
-    ensures { result ≡ end_is_later now end }
-{
-    now.secs < end.secs()
 }
 
 /// Whether forwardable is asked for, and the header is.

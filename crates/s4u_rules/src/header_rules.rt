@@ -7,14 +7,14 @@ ghost use Rattle.kdc_records.specs.declared.rule.Rule.TheVariants.{G15, G16};
 ghost use Rattle.route_rules.specs.Aims.{HasAim};
 ghost use Rattle.route_rules.specs.Cross.{is_reached_subject, is_reached_way};
 ghost use Rattle.s4u_rules.specs.Conditions.{is_enabled};
-ghost use Rattle.s4u_rules.specs.TgsRules.{aim_is_allowed, aim_is_enabled, aim_of, etype_is_listed, has_sid_of, header_has_begun, header_is_certified, header_is_own, header_lasts, is_for_its_client, is_local, is_self, is_the_subject, options_are_plain, requestor_is_enabled, requestor_is_known, requestor_record, stamp_is_fresh, start_is_now};
+ghost use Rattle.s4u_rules.specs.TgsRules.{aim_is_allowed, aim_is_enabled, aim_of, etype_is_listed, has_sid_of, header_has_begun, header_is_certified, header_is_own, header_lasts, is_for_its_client, is_local, is_self, is_the_subject, options_are_plain, requestor_is_enabled, requestor_is_known, requestor_record, stamp_is_fresh};
 
 use crate::header::ShownView;
 use crate::issuer::issuing_realm;
 use dir_core::{Account, Directory, RealmRec};
 use dir_records::Entry;
 use kdc_records::{
-    Aim, Branch, Holder, Rule, Subject, TicketRec, Wish, are_clear, is_user, kdc_option, starts_now,
+    Aim, Branch, Holder, Rule, Subject, TicketRec, Wish, are_clear, is_user, kdc_option,
 };
 use krb_names::{Etype, Moment};
 use route_rules::{cross_ok, requestor_account, resolve};
@@ -131,13 +131,6 @@ pub(crate) fn check_reach(dir: &Directory, at: u32, rec: &TicketRec) -> Result<(
         },
         Holder::Krbtgt { .. } | Holder::Account { .. } => Ok(()),
     }
-}
-
-/// G17: neither allow-postdate nor postdated is asked for, and from is absent or at most 300 seconds after now.
-pub(crate) fn start_is_now(now: Moment, wish: &Wish) -> bool
-    ensures { result ≡ start_is_now now wish.now }
-{
-    starts_now(now.secs, wish)
 }
 
 /// G18: forwarded, proxy, enc-tkt-in-skey, renew and validate are not asked for, and not both forms of S4U at once.

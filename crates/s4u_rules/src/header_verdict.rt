@@ -10,7 +10,7 @@ ghost use Rattle.s4u_rules.specs.TgsRules.{aim_of, header_rules, header_verdict,
 use crate::header::{HeaderView, ShownView};
 use crate::header_rules::*;
 use dir_core::Directory;
-use kdc_records::{Aim, Rule, TicketRec, Wish, require};
+use kdc_records::{Aim, Rule, TicketRec, Wish, require, start_is_now};
 use krb_names::Moment;
 
 /// The record of a header that was opened, or the first of G9 to G12 that fails.

@@ -1,3 +1,4 @@
+pub mod Accepts
 pub mod Chains
 pub mod ReplyForms
 pub mod Unshown

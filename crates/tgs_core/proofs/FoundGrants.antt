@@ -4,6 +4,7 @@ use Rattle.std.specs.Prelude.{◌==◌, IfSome, if◌then◌else◌, is_some, mi
 use Rattle.std.specs.List.{AllByRecursion}
 use Rattle.std.proofs.lemmas.List.Quantifiers.{position-Some}
 use Rattle.std.proofs.lemmas.Option.{get_or_from_slice_get}
+use Rattle.dir_core.specs.Lives.{longest_life}
 use lib.Pointwise.{bytes_decides}
 use Rattle.der_core.specs.Laws.{IsBytes}
 use Rattle.kdc_prelude.specs.Steps.{◌>>=◌}
@@ -31,7 +32,7 @@ use Rattle.dir_records.specs.DirectoryValue.{DirectoryValue}
 use Rattle.dir_records.specs.IsDirectory.{IsAccount, IsAccountInRange, IsDirectory, IsRealm, IsRealmInRange, IsTrust, IsTrustInRange}
 use Rattle.dir_core.specs.Lookups.{account_at, realm_named}
 use Rattle.as_core.specs.AsRequests.{as_ask, as_wish}
-use Rattle.as_core.specs.AsRules.{as_terms, longest_life}
+use Rattle.as_core.specs.AsRules.{as_terms}
 use Rattle.s4u_rules.specs.SelfRules.{enterprise_user, self_terms}
 use Rattle.s4u_rules.specs.TgsRules.{aim_of, ordinary_terms}
 use Rattle.s4u_rules.specs.TgsRules as tgs
@@ -217,7 +218,7 @@ tgs_terms_are : (dir : DirectoryValue) (i : ℕ) (realm : RealmRec) (now : Momen
 tgs_terms_are dir i realm now request rec aim flags append at h small =
     let early = now.in_range in
     let life = life_few dir i realm at h in
-    let end = end_early request.wish.till (min (now.secs + tgs.longest_life dir i) rec.end) in
+    let end = end_early request.wish.till (min (now.secs + longest_life dir i) rec.end) in
     record { flags = small; start = omega (arith, early); end = omega (arith, early, life, end) }
 
 ordinary_by_aim : (dir : DirectoryValue) (now : Moment) (request : Request) (rec : TicketRec) (realm : RealmRec) (terms : Terms) → slice_get dir.realms request.realm ≡ Some realm → IsRealm realm
@@ -238,7 +239,7 @@ proxy_terms_are : (dir : DirectoryValue) (i : ℕ) (realm : RealmRec) (now : Mom
 proxy_terms_are dir i realm now request header evidence aim at h =
     let early = now.in_range in
     let life = life_few dir i realm at h in
-    let end = end_early request.wish.till (min (now.secs + tgs.longest_life dir i) (min header.end evidence.end)) in
+    let end = end_early request.wish.till (min (now.secs + longest_life dir i) (min header.end evidence.end)) in
     record { flags = one_flag_small _; start = omega (arith, early); end = omega (arith, early, life, end) }
 
 proxy_by_aim : (dir : DirectoryValue) (now : Moment) (request : Request) (header evidence : TicketRec) (realm : RealmRec) (terms : Terms) → slice_get dir.realms request.realm ≡ Some realm

@@ -12,7 +12,7 @@ use Rattle.std.proofs.lemmas.Str.{IsUtf8-append, IsUtf8-encode, IsUtf8-from_is_u
 use lib.Pointwise.{bytes_decides}
 use Rattle.der_core.specs.Forms.{text}
 use Rattle.der_core.specs.Sizes.{size}
-use Rattle.der_forms.specs.Names.{name_text as part_text}
+use Rattle.der_forms.specs.Names.{kerberos_string}
 use Rattle.kdc_prelude.specs.Options.{holds_of}
 use Rattle.kdc_prelude.specs.Texts.{same_text}
 use Rattle.krb_names.specs.declared.principal.Principal.{Principal}
@@ -88,7 +88,7 @@ at_is_text : IsUtf8 (64 ∷ [])
 at_is_text = subst IsUtf8 (encode_ascii 64 (omega arith)) (IsUtf8-encode 64 refl)
 
 -- texts joined by `/` are a text
-joined_is_text : (parts : List (List ℕ)) → AllByRecursion part_text.Fits parts → IsUtf8 (join_with_byte 47 parts)
+joined_is_text : (parts : List (List ℕ)) → AllByRecursion kerberos_string.Fits parts → IsUtf8 (join_with_byte 47 parts)
 joined_is_text [] fits = IsUtf8-nil
 joined_is_text (part ∷ []) fits = IsUtf8-from_is_utf8 part fits.0.0.1
 joined_is_text (part ∷ next ∷ parts) fits =

@@ -1,6 +1,7 @@
 -- What is decided of a TGS-REQ whose header is opened is what its rules say.
 use Rattle.std.proofs.Common.{◌≡◌, ◌∙◌, ℕ, Bool, true, false, List, ◌++◌, Option, Some, None, refl, sym, ap, subst}
 use Rattle.std.specs.Prelude.{IfErr, IfOk, IsErr, IsErrAnd, MatchResult, Result, Ok, Err, is_some, if◌then◌else◌, option_map}
+use Rattle.kdc_prelude.proofs.Verdicts.{fails_first, fails_later}
 use Rattle.kdc_prelude.specs.Steps.{◌>>=◌}
 use Rattle.kdc_prelude.specs.Verdicts.{first_failing}
 use Rattle.krb_names.specs.declared.moment.Moment.{Moment}
@@ -45,7 +46,7 @@ use Rattle.tgs_core.specs.GrantViews.{presented_seen}
 use Rattle.tgs_core.specs.Verdicts.{aimed_rows, branch_rows, evidence_rows, opened_rows, ordinary_rows, proxy_rows, rules_of_branch, self_rows, tgs_rules}
 use Rattle.tgs_core.proofs.FoundGrants.{mapped_of, some_is, step_of}
 use Rattle.tgs_core.proofs.Openings.{decided_deny, decided_grant}
-use Rattle.tgs_core.proofs.TgsVerdicts.{IsThere, first_denied, first_passed, tgs_rules_are, user_there}
+use Rattle.tgs_core.proofs.TgsVerdicts.{IsThere, tgs_rules_are, user_there}
 
 -- ---- how a TGS-REQ asks
 
@@ -85,7 +86,7 @@ ordinary_denied dir now request header rec aim rule shows e =
 behind_users : (dir : DirectoryValue) (now : Moment) (request : Request) (header : Header) (rec : TicketRec) → record_in header ≡ Some rec → first_failing (user_rules header request.message) ≡ None
     → first_failing (branch_rows dir now request header SelfTicket) ≡ first_failing (self_rules dir request.realm now request.wish rec)
 behind_users dir now request header rec shows none =
-    first_passed (user_rules header request.message) (self_rows dir now request (record_in header)) none ∙ ap (λ (found : Option TicketRec). first_failing (self_rows dir now request found)) shows
+    fails_later (user_rules header request.message) (self_rows dir now request (record_in header)) none ∙ ap (λ (found : Option TicketRec). first_failing (self_rows dir now request found)) shows
 
 -- what is granted of S4U2self
 record IsSelf (dir : DirectoryValue) (now : Moment) (request : Request) (header : Header) (rec : TicketRec) (aim : Aim) (terms : Terms) : Type 0 where
@@ -113,7 +114,7 @@ self_denied_by dir now request header rec aim rule None shows was e =
     ∙ decided_deny (first_failing (self_rules dir request.realm now request.wish rec)) (self_terms dir request.realm now request.wish rec aim) rule e
 self_denied_by dir now request header rec aim rule (Some other) shows was e =
     let same : other ≡ rule = cc in
-    first_denied (user_rules header request.message) (self_rows dir now request (record_in header)) rule (was ∙ ap (λ (r : Rule). Some r) same)
+    fails_first (user_rules header request.message) (self_rows dir now request (record_in header)) rule (was ∙ ap (λ (r : Rule). Some r) same)
 
 self_denied : (dir : DirectoryValue) (now : Moment) (request : Request) (header : Header) (rec : TicketRec) (aim : Aim) (rule : Rule) → record_in header ≡ Some rec
     → branch_decision dir now request header rec aim SelfTicket ≡ Deny rule → first_failing (branch_rows dir now request header SelfTicket) ≡ Some rule
@@ -148,7 +149,7 @@ pub header_denies : (dir : DirectoryValue) (now : Moment) (message : KdcReq) (i 
     → first_failing (header_rules dir i now wish (shown_header header)) ≡ Some rule
     → first_failing (opened_rows dir now (request_to message i) (tgs_branch message) (Some header)) ≡ Some rule
 header_denies dir now message i wish header rule e denied =
-    first_denied (header_rules dir i now (wish_of message) (shown_header header)) (branch_rows dir now (request_to message i) header (tgs_branch message)) rule
+    fails_first (header_rules dir i now (wish_of message) (shown_header header)) (branch_rows dir now (request_to message i) header (tgs_branch message)) rule
     (subst (λ (w : Wish). first_failing (header_rules dir i now w (shown_header header)) ≡ Some rule) e denied)
 
 denied_in : (dir : DirectoryValue) (now : Moment) (message : KdcReq) (i : ℕ) (header : Header) (shown : Presented) (aim : Aim) (rule : Rule) (branch : Branch) → IsKept dir now message i header shown aim
@@ -163,7 +164,7 @@ pub decision_denies : (dir : DirectoryValue) (now : Moment) (message : KdcReq) (
     → is_proxy (tgs_branch message) ≡ false → Deny rule ≡ branch_decision dir now (request_to message i) header shown.rec aim (tgs_branch message)
     → first_failing (opened_rows dir now (request_to message i) (tgs_branch message) (Some header)) ≡ Some rule
 decision_denies dir now message i header shown aim rule h other e =
-    first_passed (header_rules dir i now (wish_of message) (shown_header header)) (branch_rows dir now (request_to message i) header (tgs_branch message)) h.ruled
+    fails_later (header_rules dir i now (wish_of message) (shown_header header)) (branch_rows dir now (request_to message i) header (tgs_branch message)) h.ruled
     ∙ denied_in dir now message i header shown aim rule (tgs_branch message) h refl other (sym e)
 
 -- the header of a request
@@ -206,7 +207,7 @@ granted_in dir now message i header shown aim terms grounds Ordinary h asked oth
     let g = ordinary_granted dir now request header rec aim terms h.shows e in
     let is : ByHeader shown ≡ grounds = some_is (ByHeader shown) grounds on in
     record {
-      allowed = first_passed (header_rules dir i now (wish_of message) (shown_header header)) (branch_rows dir now request header Ordinary) h.ruled ∙ g.0;
+      allowed = fails_later (header_rules dir i now (wish_of message) (shown_header header)) (branch_rows dir now request header Ordinary) h.ruled ∙ g.0;
       stands = on_header dir now message i header shown aim Ordinary h ∙ on;
       given = ap (terms_of dir now request) (sym is) ∙ ap (option_map (ordinary_terms dir i now request.wish rec)) h.aims ∙ ap (λ (terms : Terms). Some terms) (sym g.1);
     }
@@ -214,7 +215,7 @@ granted_in dir now message i header shown aim terms grounds SelfTicket h asked o
     let request : Request = request_to message i in
     let g = self_granted dir now request header shown.rec aim terms h.shows e in
     record {
-      allowed = first_passed (header_rules dir i now (wish_of message) (shown_header header)) (branch_rows dir now request header SelfTicket) h.ruled ∙ g.rows;
+      allowed = fails_later (header_rules dir i now (wish_of message) (shown_header header)) (branch_rows dir now request header SelfTicket) h.ruled ∙ g.rows;
       stands = on_header dir now message i header shown aim SelfTicket h ∙ on;
       given = self_terms_of dir now request shown (x509_asked message) request.wish.user aim grounds terms on h.aims g.are;
     }
@@ -264,7 +265,7 @@ grounds_there dir now message i header shown aim terms h other e = there_in dir 
 pub tgs_opened : (dir : DirectoryValue) (now : Moment) (request : Request) (branch : Branch) (header : Header) → first_failing (reading_rules dir request.realm request.message) ≡ None
     → header_in dir request.realm request.message ≡ Some header → first_failing (tgs_rules dir now request branch) ≡ first_failing (opened_rows dir now request branch (Some header))
 tgs_opened dir now request branch header reading opened =
-    first_passed (reading_rules dir request.realm request.message) (opened_rows dir now request branch (header_in dir request.realm request.message)) reading
+    fails_later (reading_rules dir request.realm request.message) (opened_rows dir now request branch (header_in dir request.realm request.message)) reading
     ∙ ap (λ (found : Option Header). first_failing (opened_rows dir now request branch found)) opened
 
 -- none of its rules fails
@@ -278,7 +279,7 @@ branch_allowed dir now message i header kind reading opened allowed =
 
 -- a denial by the first group is one by both
 pub denial_first : (xs ys : List (Rule × Bool)) (fault : ShowFault) → IsDenial (first_failing xs) fault → IsDenial (first_failing (xs ++ ys)) fault
-denial_first xs ys (faults.Deny rule) h = first_denied xs ys rule h
+denial_first xs ys (faults.Deny rule) h = fails_first xs ys rule h
 denial_first xs ys faults.NoMemory h = tt
 
 pub denial_is : (one other : Option Rule) (fault : ShowFault) → one ≡ other → IsDenial other fault → IsDenial one fault
@@ -311,7 +312,7 @@ proxy_behind : (dir : DirectoryValue) (now : Moment) (message : KdcReq) (i : ℕ
 proxy_behind dir now message i header shown aim h asked =
     let request : Request = request_to message i in
     ap (λ (b : Branch). first_failing (opened_rows dir now request b (Some header))) asked
-    ∙ first_passed (header_rules dir i now (wish_of message) (shown_header header)) (branch_rows dir now request header Proxy) h.ruled
+    ∙ fails_later (header_rules dir i now (wish_of message) (shown_header header)) (branch_rows dir now request header Proxy) h.ruled
     ∙ ap (λ (found : Option TicketRec). first_failing (proxy_rows dir now request found)) h.shows
 
 -- where the evidence is denied
@@ -333,7 +334,7 @@ behind_evidence dir now message i header shown aim evidence h asked none found =
     let request : Request = request_to message i in
     let rows = evidence_reading_rules dir i message shown.rec in
     proxy_behind dir now message i header shown aim h asked
-    ∙ first_passed rows (evidence_rows dir now request shown.rec (evidence_in dir i message shown.rec)) none
+    ∙ fails_later rows (evidence_rows dir now request shown.rec (evidence_in dir i message shown.rec)) none
     ∙ ap (λ (found : Option Evidence). first_failing (evidence_rows dir now request shown.rec found)) found
     ∙ ap (λ (aimed : Option Aim). first_failing (aimed_rows dir now request shown.rec evidence aimed)) h.aims
 

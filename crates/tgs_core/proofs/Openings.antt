@@ -1,7 +1,8 @@
 -- How a request is judged by itself, and then by its branch.
-use Rattle.std.proofs.Common.{◌≡◌, ◌∙◌, ℕ, ◌<◌, ◌≤◌, Bool, true, false, List, [], ◌∷◌, ◌++◌, drop, length, Option, Some, None, Ok, Err, ◌≢◌, refl, sym, ap, arith}
+use Rattle.std.proofs.Common.{◌≡◌, ◌∙◌, ℕ, ◌<◌, ◌≤◌, Bool, true, false, List, ◌∷◌, drop, length, Option, Some, None, Ok, Err, ◌≢◌, refl, sym, ap, arith}
 use Rattle.std.specs.Prelude.{is_some, if◌then◌else◌, option_map}
 use Rattle.std.proofs.lemmas.Bool.Decides.{nat_tests}
+use Rattle.kdc_prelude.proofs.Verdicts.{failing_append, neither, passes}
 use Rattle.kdc_prelude.specs.Options.{holds_of}
 use Rattle.kdc_prelude.specs.Steps.{◌>>=◌}
 use Rattle.kdc_prelude.specs.Verdicts.{first_failing, ◌or_else◌}
@@ -36,24 +37,9 @@ use Rattle.tgs_core.specs.Verdicts.{OpeningGrants, rules_of_branch, rules_of_req
 
 -- ---- tables
 
-pub failing_append : {R : Type 0} (xs ys : List (R × Bool)) → first_failing (xs ++ ys) ≡ (first_failing xs or_else first_failing ys)
-failing_append [] ys = refl
-failing_append ((rule, true) ∷ xs) ys = failing_append xs ys
-failing_append ((rule, false) ∷ xs) ys = refl
-
--- none of two fails
-pub or_none : {R : Type 0} (a b : Option R) → (a or_else b) ≡ None → (a ≡ None) × (b ≡ None)
-or_none None b h = (refl, h)
-or_none (Some rule) b h = absurd (cc)
-
 failing_first : {R : Type 0} (rule : R) (b : Bool) (rows : List (R × Bool)) → b ≡ false → first_failing ((rule, b) ∷ rows) ≡ Some rule
 failing_first rule true rows e = absurd (cc)
 failing_first rule false rows e = refl
-
--- the first row holds, and no later one fails
-pub passes : {R : Type 0} (rule : R) (b : Bool) (rows : List (R × Bool)) → first_failing ((rule, b) ∷ rows) ≡ None → (b ≡ true) × (first_failing rows ≡ None)
-passes rule true rows h = (refl, h)
-passes rule false rows h = absurd (cc)
 
 -- ---- the message that bytes are
 
@@ -161,7 +147,7 @@ unfolding verdict
 opening_known dir now bytes h =
     let rows = opening_rules dir bytes in
     let later = rules_of_request dir now (request_in dir bytes) in
-    let u0 = (or_none (first_failing rows) (first_failing later) (sym (failing_append rows later) ∙ h)).0 in
+    let u0 = (neither (first_failing rows) (first_failing later) (sym (failing_append rows later) ∙ h)).0 in
     let u1 = passes U1 (is_within_limit bytes) (drop 1 rows) u0 in
     let u2 = passes U2 (is_tagged bytes) (drop 2 rows) u1.1 in
     let u3 = passes U3 (is_some (message_in bytes)) (drop 3 rows) u2.1 in
@@ -176,7 +162,7 @@ unfolding verdict
 branch_known dir now bytes request branch h e asked =
     let rows = opening_rules dir bytes in
     let later = rules_of_request dir now (request_in dir bytes) in
-    let none = (or_none (first_failing rows) (first_failing later) (sym (failing_append rows later) ∙ h)).1 in
+    let none = (neither (first_failing rows) (first_failing later) (sym (failing_append rows later) ∙ h)).1 in
     let of_request : first_failing (rules_of_request dir now (Some request)) ≡ None = sym (ap (λ (r : Option Request). first_failing (rules_of_request dir now r)) e) ∙ none in
     sym (ap (λ (b : Branch). first_failing (rules_of_branch dir now request b)) asked) ∙ of_request
 

@@ -1,8 +1,9 @@
 -- How a TGS-REQ is judged, group by group.
-use Rattle.std.proofs.Common.{◌≡◌, ◌∙◌, ℕ, Bool, true, false, List, ◌++◌, drop, Option, Some, None, refl, sym, ap}
+use Rattle.std.proofs.Common.{◌≡◌, ◌∙◌, ℕ, Bool, true, false, List, drop, Option, Some, None, refl, sym, ap}
 use Rattle.std.specs.Prelude.{◌||◌, is_some, not, if◌then◌else◌}
+use Rattle.kdc_prelude.proofs.Verdicts.{neither_fails, passes}
 use Rattle.kdc_prelude.specs.Options.{holds_of}
-use Rattle.kdc_prelude.specs.Verdicts.{first_failing, ◌or_else◌}
+use Rattle.kdc_prelude.specs.Verdicts.{first_failing}
 use Rattle.krb_names.specs.declared.moment.Moment.{Moment}
 use Rattle.krb_messages.specs.declared.kdc_req.KdcReq.{KdcReq}
 use Rattle.krb_messages.specs.KdcReq.{is_as_req}
@@ -34,21 +35,7 @@ use Rattle.tgs_requests.specs.Headers.{ap_req_of, header_in, reading_rules, reco
 use Rattle.tgs_requests.specs.SelfSums.{user_rules}
 use Rattle.tgs_core.specs.Requests.{Request, opening_rules, request_to}
 use Rattle.tgs_core.specs.Verdicts.{HeaderKept, OrdinaryGrants, ProxyTicketGrants, SelfTicketGrants, aimed_rows, branch_rows, evidence_rows, opened_rows, ordinary_rows, proxy_rows, rules_of_branch, self_rows, tgs_rules, verdict}
-use Rattle.tgs_core.proofs.Openings.{IsOpened, branch_verdict, failing_append, or_none, passes}
-
--- ---- groups, one after the other
-
--- where one of the first group fails
-pub first_denied : {R : Type 0} (xs ys : List (R × Bool)) (rule : R) → first_failing xs ≡ Some rule → first_failing (xs ++ ys) ≡ Some rule
-first_denied {R} xs ys rule h = failing_append xs ys ∙ ap (λ (f : Option R). f or_else first_failing ys) h
-
--- where none of the first group fails
-pub first_passed : {R : Type 0} (xs ys : List (R × Bool)) → first_failing xs ≡ None → first_failing (xs ++ ys) ≡ first_failing ys
-first_passed {R} xs ys h = failing_append xs ys ∙ ap (λ (f : Option R). f or_else first_failing ys) h
-
--- none of either fails
-pub none_of_both : {R : Type 0} (xs ys : List (R × Bool)) → first_failing (xs ++ ys) ≡ None → (first_failing xs ≡ None) × (first_failing ys ≡ None)
-none_of_both xs ys h = or_none (first_failing xs) (first_failing ys) (sym (failing_append xs ys) ∙ h)
+use Rattle.tgs_core.proofs.Openings.{IsOpened, branch_verdict}
 
 -- ---- what is known where none fails
 
@@ -61,7 +48,7 @@ opened_known : (dir : DirectoryValue) (now : Moment) (request : Request) (branch
     → first_failing (reading_rules dir request.realm request.message) ≡ None → first_failing (opened_rows dir now request branch found) ≡ None → is_some found ≡ true → IsKept dir now request branch
 opened_known dir now request branch None e reading h some = absurd (cc)
 opened_known dir now request branch (Some header) e reading h some =
-    let groups = none_of_both (header_rules dir request.realm now request.wish (shown_header header)) (branch_rows dir now request header branch) h in
+    let groups = neither_fails (header_rules dir request.realm now request.wish (shown_header header)) (branch_rows dir now request header branch) h in
     let g = header_known dir request.realm now request.wish (Shown (shown_header header)) groups.0 in
     record {
       kept = record { header = header; rec = g.rec; opened = e; shown = ap record_of g.shown ∙ g.certified; reading = reading; granted = g };
@@ -73,7 +60,7 @@ tgs_known dir now request branch h =
     let at = request.realm in
     let message = request.message in
     let rows = reading_rules dir at message in
-    let groups = none_of_both rows (opened_rows dir now request branch (header_in dir at message)) h in
+    let groups = neither_fails rows (opened_rows dir now request branch (header_in dir at message)) h in
     let g1 = passes G1 (is_some (ap_req_of message)) (drop 1 rows) groups.0 in
     let g2 = passes G2 (holds_of (λ ap. header_is_for_this_realm dir at ap.ticket) (ap_req_of message)) (drop 2 rows) g1.1 in
     let g3 = passes G3 (holds_of (λ ap. header_key_fits dir at ap.ticket) (ap_req_of message)) (drop 3 rows) g2.1 in
@@ -100,7 +87,7 @@ self_kept dir now request h =
     let g = tgs_known dir now request SelfTicket h in
     let at = request.realm in
     let rec = g.kept.rec in
-    let groups = none_of_both (user_rules g.kept.header request.message) (self_rows dir now request (record_in g.kept.header)) g.behind in
+    let groups = neither_fails (user_rules g.kept.header request.message) (self_rows dir now request (record_in g.kept.header)) g.behind in
     let none : first_failing (self_rules dir at now request.wish rec) ≡ None = sym (ap (λ (found : Option TicketRec). first_failing (self_rows dir now request found)) g.kept.shown) ∙ groups.1 in
     let terms = self_terms dir at now request.wish rec g.kept.granted.aim in
     record {
@@ -133,7 +120,7 @@ proxy_kept dir now request h =
     let rec = g.kept.rec in
     let aim = g.kept.granted.aim in
     let rows : first_failing (proxy_rows dir now request (Some rec)) ≡ None = sym (ap (λ (found : Option TicketRec). first_failing (proxy_rows dir now request found)) g.kept.shown) ∙ g.behind in
-    let groups = none_of_both (evidence_reading_rules dir at message rec) (evidence_rows dir now request rec (evidence_in dir at message rec)) rows in
+    let groups = neither_fails (evidence_reading_rules dir at message rec) (evidence_rows dir now request rec (evidence_in dir at message rec)) rows in
     let evidence = evidence_there dir at message rec groups.0 in
     let aimed : first_failing (aimed_rows dir now request rec evidence.value (aim_of dir at request.wish)) ≡ None =
     sym (ap (λ (found : Option Evidence). first_failing (evidence_rows dir now request rec found)) evidence.is) ∙ groups.1 in

@@ -14,7 +14,7 @@ pub struct Note {
 /// The reply to a request, and its note.
 #[derive(Debug, Drop)]
 pub struct Answered {
-    /// An AS-REP, or a KRB-ERROR (RFC 4120, sections 5.4.2 and 5.9.1).
+    /// An AS-REP or a TGS-REP, or a KRB-ERROR (RFC 4120, sections 5.4.2 and 5.9.1).
     pub reply: Bytes,
     pub note: Note,
 }

@@ -81,7 +81,7 @@ pub fn make_ticket(
     ensures short { IfOk result (λ made. length (ticket.spelling made) < 2 ^ 25) }
 {
     let part = make_part(alloc, rec, holder_key, realm_key)?;
-    let text = write_part(alloc, &part)?;
+    let text = write_part(&part)?;
     let cipher = seal_text(alloc, holder_key, conf, text.as_slice())?;
     ticket_with(alloc, &rec.holder, sname, issuer, holder_key, cipher)
 }

@@ -43,13 +43,13 @@ abbrev pub account_there : ℕ → ℕ × ℕ → Option ℕ
 account_there at place = if place.0 == at then Some place.1 else None
 
 -- the index of the account of the realm at an index that a name gives
-unfoldable pub account_named : DirectoryValue → ℕ → Principal → Option ℕ
-account_named dir at name = resolve_account dir at name >>= account_there at
+unfoldable pub account_given : DirectoryValue → ℕ → Principal → Option ℕ
+account_given dir at name = resolve_account dir at name >>= account_there at
 
 -- what the realm at an index has sealed a ticket for, by the realm of its name `krbtgt/REALM`, if it is one
 abbrev pub aim_named : DirectoryValue → ℕ → RealmRec → Principal → Option (List ℕ) → Option Aim
 aim_named dir at realm name (Some other) = if same_text other realm.name then Some aims.Krbtgt else option_map aims.Hop (trust_in dir at other)
-aim_named dir at realm name None = option_map aims.Account (account_named dir at name)
+aim_named dir at realm name None = option_map aims.Account (account_given dir at name)
 
 -- the holder of an aim of the realm at an index, in words too
 abbrev pub held_by : DirectoryValue → ℕ → RealmRec → Aim → Option Held

@@ -2,7 +2,7 @@
 ghost use Rattle.std.specs.Prelude.{◌≡◌, ◌++◌, ◌<◌, codes, IfOk, IfSome, length, OnOk, option_map, string_bytes};
 ghost use Rattle.krb_names.specs.NameTexts.{at_realm};
 ghost use Rattle.krb_names.specs.SidValue.{followed_by, sid_text};
-ghost use Rattle.ticket_explain.specs.Holders.{account_named, account_text, aim_named, aim_text, held, held_by, krbtgt_realm, trust_text};
+ghost use Rattle.ticket_explain.specs.Holders.{account_given, account_text, aim_named, aim_text, held, held_by, krbtgt_realm, trust_text};
 
 use dir_core::{Account, Aim, Directory, RealmRec, Trust};
 use krb_names::{Principal, Sid, Text, push_at_realm, push_number, push_sid};
@@ -96,10 +96,10 @@ fn krbtgt_realm(name: &Principal) -> Option<&str>
 }
 
 /// The index of the account that a name gives, where it is of the realm at an index.
-#[tactic(auto, unfolding(crate::specs::Holders::account_named))]
-fn account_named(dir: &Directory, at: u32, name: &Principal) -> Option<u32>
+#[tactic(auto, unfolding(crate::specs::Holders::account_given))]
+fn account_given(dir: &Directory, at: u32, name: &Principal) -> Option<u32>
     requires { at < length dir.now.realms }
-    ensures { result ≡ account_named dir.now at name.now }
+    ensures { result ≡ account_given dir.now at name.now }
 {
     match resolve_account(dir, at, name) {
         Some((realm, account)) => { if realm == at { Some(account) } else { None } }
@@ -132,7 +132,7 @@ fn aim_named(dir: &Directory, at: u32, realm: &RealmRec, name: &Principal) -> Op
                 hop_aim(find_trust(dir, at, other))
             }
         }
-        None => account_aim(account_named(dir, at, name)),
+        None => account_aim(account_given(dir, at, name)),
     }
 }
 

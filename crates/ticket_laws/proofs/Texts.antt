@@ -8,12 +8,13 @@ use Rattle.std.proofs.lemmas.List.Concat.{flat_map-cons}
 use Rattle.der_core.specs.Forms.{text}
 use Rattle.der_core.specs.Steps.{neither}
 use Rattle.der_forms.specs.Lists.{is_some}
-use Rattle.der_forms.specs.Names.{name_text}
+use Rattle.der_forms.specs.Names.{kerberos_string}
 use Rattle.kdc_prelude.proofs.Bools.{both}
+use Rattle.kdc_prelude.specs.Results.{unless_refused}
 use Rattle.krb_names.specs.declared.principal.Principal.{Principal}
 use Rattle.krb_names.specs.declared.refusal.NameRefusal.{NameRefusal}
 use Rattle.krb_names.specs.declared.refusal.NameRefusal.TheVariants.{Empty, TooLong, BadText}
-use Rattle.krb_names.specs.Pieces.{is_name, is_empty, is_long, has_forbidden, fault_of, unless}
+use Rattle.krb_names.specs.Pieces.{is_name, is_empty, is_long, has_forbidden, fault_of}
 use Rattle.krb_names.specs.Principals.{cut_at, round_last_at, name_of_parts, name_reading}
 use Rattle.krb_tickets.specs.NameString.{plain_parts, is_joined, is_enterprise, name_string, FitsLone}
 use Rattle.krb_tickets.specs.Transited.{is_realm, are_realms}
@@ -53,7 +54,7 @@ round_length (b ∷ rest) parts e = by_rest (round_last_at rest) (round_length r
         let is : (let cut : List ℕ × List ℕ = (b ∷ q.0, q.1) in cut) ≡ parts = cc in
         omega (arith, long q refl, ap (λ (cut : List ℕ × List ℕ). length cut.0 + suc (length cut.1)) is)
 
-no_fault : (fault : Option NameRefusal) (name : Principal) → is_ok (unless fault name) ≡ true → is_none fault ≡ true
+no_fault : (fault : Option NameRefusal) (name : Principal) → is_ok (unless_refused fault name) ≡ true → is_none fault ≡ true
 no_fault None name h = refl
 no_fault (Some fault) name h = absurd cc
 
@@ -69,13 +70,13 @@ joined_short text h = joined_length text (round_last_at text) refl (both (not (i
 
 -- ---- realms
 
-pub realm_fits : (name : List ℕ) → is_realm name ≡ true → name_text.Fits name
+pub realm_fits : (name : List ℕ) → is_realm name ≡ true → kerberos_string.Fits name
 realm_fits name h = let tests = both (is_utf8 name) (is_name name) h in ((tt, tests.0), tests.1)
 
 pub realm_short : (name : List ℕ) → is_realm name ≡ true → length name ≤ 255
 realm_short name h = name_short name (both (is_utf8 name) (is_name name) h).1
 
-all_fit : (names : List (List ℕ)) → list_all is_realm names ≡ true → AllByRecursion name_text.Fits names
+all_fit : (names : List (List ℕ)) → list_all is_realm names ≡ true → AllByRecursion kerberos_string.Fits names
 all_fit [] h = tt
 all_fit (x ∷ xs) h = let tests = both (is_realm x) (list_all is_realm xs) h in (realm_fits x tests.0, all_fit xs tests.1)
 
@@ -149,10 +150,10 @@ parts_within kind parts h =
 and_true : (a b : Bool) → a ≡ true → b ≡ true → (a && b) ≡ true
 and_true a b h k = rw (h, k) refl
 
-pub realm_only : (name : List ℕ) → name_text.Fits name → is_realm name ≡ true
+pub realm_only : (name : List ℕ) → kerberos_string.Fits name → is_realm name ≡ true
 realm_only name fits = and_true (is_utf8 name) (is_name name) fits.0.1 fits.1
 
-all_only : (names : List (List ℕ)) → AllByRecursion name_text.Fits names → list_all is_realm names ≡ true
+all_only : (names : List (List ℕ)) → AllByRecursion kerberos_string.Fits names → list_all is_realm names ≡ true
 all_only [] fits = refl
 all_only (x ∷ xs) fits = and_true (is_realm x) (list_all is_realm xs) (realm_only x fits.0) (all_only xs fits.1)
 

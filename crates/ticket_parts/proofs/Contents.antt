@@ -2,6 +2,7 @@
 use Rattle.std.proofs.Common.{◌≡◌, ℕ, ◌⊎◌, inl, inr, ℤ, pos, Bool, true, false, ◌||◌, ◌&&◌, cond, List, ◌++◌, length, take, Option, Some, None, refl, ap, ◌∙◌, arith}
 use Rattle.std.specs.Prelude.{Result, is_none, is_some, option_map}
 use Rattle.std.proofs.lemmas.List.{length-take-le}
+use Rattle.std.specs.Result.{result_ok}
 use Rattle.kdc_prelude.specs.Steps.{◌>>=◌}
 use Rattle.krb_crypto.specs.Derivation.{checksum_key}
 use Rattle.krb_crypto.specs.KeyedHash.{hmac_sha1}
@@ -21,7 +22,7 @@ use Rattle.pac_laws.proofs.Written.{signature_read}
 use Rattle.pac_sign.specs.Signed.{cleared, server_sum, signed, with_server}
 use Rattle.pac_sign.specs.Sums.{sum_of, sum_type}
 use Rattle.pac_sign.proofs.Signatures.{content_other, content_own}
-use Rattle.ticket_parts.specs.Records.{are_signatures_in, is_signature_in, is_signature_or_absent, or_nothing}
+use Rattle.ticket_parts.specs.Records.{are_signatures_in, is_signature_in, is_signature_or_absent}
 
 -- ---- what is built
 
@@ -147,8 +148,8 @@ no_ticket holder realm bs e = past_server holder realm bs ∙ e
 read_signature : (kind : ℕ) (type : ℤ) (bs : List Buffer) → IsSoundPac bs → (type ≡ pos 15) ⊎ (type ≡ pos 16) → IsSigned kind type bs → is_signature_in (pac bs) kind ≡ true
 read_signature kind type bs sound is h =
     let content : List ℕ = (with_value kind h.sum (unsigned kind type)).content in
-    ap (λ (o : Option (List ℕ)). is_some (o >>= λ c. or_nothing (front_of signature c))) (buffer_is kind bs sound ∙ h.found)
-    ∙ ap (λ (r : Result SignatureData LogonFault). is_some (or_nothing r)) (signature_read kind type h.sum is h.sized)
+    ap (λ (o : Option (List ℕ)). is_some (o >>= λ c. result_ok (front_of signature c))) (buffer_is kind bs sound ∙ h.found)
+    ∙ ap (λ (r : Result SignatureData LogonFault). is_some (result_ok r)) (signature_read kind type h.sum is h.sized)
 
 pub type_is : (e : Etype) → (pos (sum_type e) ≡ pos 15) ⊎ (pos (sum_type e) ≡ pos 16)
 type_is Aes128 = inl refl

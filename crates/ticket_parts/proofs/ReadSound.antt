@@ -12,6 +12,7 @@ use Rattle.der_forms.specs.Lists.{AreItems, sequence_of}
 use Rattle.der_forms.specs.ListLaws.{sequence_of_lawful}
 use Rattle.kdc_prelude.specs.Steps.{◌>>=◌}
 use Rattle.kdc_prelude.proofs.Bools.{both}
+use Rattle.std.specs.Result.{result_ok}
 use Rattle.krb_names.specs.Pieces.{is_name}
 use Rattle.krb_names.specs.SidValue.{SidValue, followed_by}
 use Rattle.krb_tickets.specs.declared.auth_item.AuthItem.{AuthItem}
@@ -38,7 +39,7 @@ use Rattle.kdc_records.specs.declared.holder.Holder.{Holder}
 use Rattle.ticket_parts.specs.declared.pac_values.PacValue.{PacValue}
 use Rattle.ticket_parts.specs.declared.reading.ReadRecord.{ReadRecord}
 use Rattle.ticket_parts.specs.Parts.{delegation_of}
-use Rattle.ticket_parts.specs.Records.{client_in, delegation_from, delegation_reading, has_names, logon_in, or_nothing, pac_reading, read_with, record_by, record_of, record_with, subject_of, such_that, value_in}
+use Rattle.ticket_parts.specs.Records.{client_in, delegation_from, delegation_reading, has_names, logon_in, pac_reading, read_with, record_by, record_of, record_with, subject_of, such_that, value_in}
 use Rattle.ticket_parts.specs.Sound.{IsSound, IsSoundSubject, IsUserSid}
 use Rattle.ticket_parts.proofs.Bytes.{IsBytes-take}
 use Rattle.ticket_parts.proofs.Steps.{record_is}
@@ -101,15 +102,15 @@ slice_by : (bytes content : List ℕ) (o : Option InfoBuffer) → IsBytes bytes 
 slice_by bytes content None h e = absurd cc
 slice_by bytes content (Some b) h e = subst IsBytes (some_is (slice_of bytes b) content e) (IsBytes-take b.size (drop b.offset bytes) (IsBytes-drop b.offset bytes h))
 
-ok_by : {X : Type 0} (r : Result X LogonFault) (x : X) → or_nothing r ≡ Some x → r ≡ Ok x
+ok_by : {X : Type 0} (r : Result X LogonFault) (x : X) → result_ok r ≡ Some x → r ≡ Ok x
 ok_by (Ok y) x e = ap Ok (some_is y x e)
 ok_by (Err fault) x e = absurd cc
 
-logon_by : (bytes : List ℕ) (info : LogonInfo) (o : Option (List ℕ)) → IsBytes bytes → buffer_of 1 bytes ≡ o → (o >>= λ content. or_nothing (object logon content)) ≡ Some info → IsWritable info
+logon_by : (bytes : List ℕ) (info : LogonInfo) (o : Option (List ℕ)) → IsBytes bytes → buffer_of 1 bytes ≡ o → (o >>= λ content. result_ok (object logon content)) ≡ Some info → IsWritable info
 logon_by bytes info None h is e = absurd cc
 logon_by bytes info (Some content) h is e = logon_can content info (slice_by bytes content (entry_of 1 bytes) h is) (ok_by (object logon content) info e)
 
-delegation_by : (content : List ℕ) (r : Result DelegationInfo LogonFault) (d : Option DelegationInfo) → IsBytes content → object delegation content ≡ r → option_map Some (or_nothing r) ≡ Some d → IfSome d (λ x. IsWritableDelegation x)
+delegation_by : (content : List ℕ) (r : Result DelegationInfo LogonFault) (d : Option DelegationInfo) → IsBytes content → object delegation content ≡ r → option_map Some (result_ok r) ≡ Some d → IfSome d (λ x. IsWritableDelegation x)
 delegation_by content (Ok x) d h is e = subst (λ (o : Option DelegationInfo). IfSome o (λ x. IsWritableDelegation x)) (some_is (Some x) d e) (delegation_can content x h is)
 delegation_by content (Err fault) d h is e = absurd cc
 

@@ -2,6 +2,7 @@
 use Rattle.std.proofs.Common.{◌≡◌, ℕ, ◌^◌, pos, Bool, true, false, ◌&&◌, cond, List, [], ◌∷◌, length, Option, Some, None, Ok, refl, sym, ap, subst, ◌∙◌, arith, lt-ltb}
 use Rattle.std.specs.Prelude.{◌==◌, Result, IfSome, is_none, is_some, nat_lt, option_map}
 use Rattle.std.proofs.lemmas.Bool.{eq-eqb}
+use Rattle.std.specs.Result.{result_ok}
 use lib.Pointwise.{bytes_decides}
 use Rattle.kdc_prelude.specs.Steps.{◌>>=◌}
 use Rattle.kdc_prelude.specs.Texts.{same_text}
@@ -42,7 +43,7 @@ use Rattle.ticket_parts.specs.declared.pac_values.PacValue.{PacValue}
 use Rattle.ticket_parts.specs.declared.reading.ReadRecord.{ReadRecord}
 use Rattle.ticket_parts.specs.Names.{filetime}
 use Rattle.ticket_parts.specs.Parts.{bare_part, client_of, delegation_of, is_service, logon_of, part, part_with, signed_pac, signed_part, unsigned_pac}
-use Rattle.ticket_parts.specs.Records.{are_signatures_in, client_agrees, client_in, delegation_from, delegation_reading, has_names, logon_in, or_nothing, pac_reading, read_with, record_of, record_with, such_that, value_in}
+use Rattle.ticket_parts.specs.Records.{are_signatures_in, client_agrees, client_in, delegation_from, delegation_reading, has_names, logon_in, pac_reading, read_with, record_of, record_with, such_that, value_in}
 use Rattle.ticket_parts.specs.Sound.{IsSound}
 use Rattle.ticket_parts.proofs.Contents.{built_delegation, signatures_read}
 use Rattle.ticket_parts.proofs.Steps.{part_is, record_with_pac}
@@ -58,17 +59,17 @@ other_is t holder realm kind h other = buffer_is kind (signed_pac t holder realm
 
 logon_told : (t : TicketRec) (holder realm : Key) → IsSound t → logon_in (pac (signed_pac t holder realm)) ≡ Some (logon_of t)
 logon_told t holder realm h =
-    ap (λ (o : Option (List ℕ)). o >>= λ content. or_nothing (object logon content)) (other_is t holder realm 1 h refl)
-    ∙ ap (λ (r : Result LogonInfo LogonFault). or_nothing r) (logon_again (logon_of t) (logon_writable t h))
+    ap (λ (o : Option (List ℕ)). o >>= λ content. result_ok (object logon content)) (other_is t holder realm 1 h refl)
+    ∙ ap (λ (r : Result LogonInfo LogonFault). result_ok r) (logon_again (logon_of t) (logon_writable t h))
 
 client_told : (t : TicketRec) (holder realm : Key) → IsSound t → client_in (pac (signed_pac t holder realm)) ≡ Some (client_of t)
 client_told t holder realm h =
-    ap (λ (o : Option (List ℕ)). o >>= λ content. or_nothing (packed client content)) (other_is t holder realm 10 h refl)
-    ∙ ap (λ (r : Result ClientInfo LogonFault). or_nothing r) (client_read (client_of t) (client_writable t h))
+    ap (λ (o : Option (List ℕ)). o >>= λ content. result_ok (packed client content)) (other_is t holder realm 10 h refl)
+    ∙ ap (λ (r : Result ClientInfo LogonFault). result_ok r) (client_read (client_of t) (client_writable t h))
 
 reading_by : (o : Option DelegationInfo) → IfSome o (λ d. IsWritableDelegation d) → delegation_reading (option_map (spelling delegation) o) ≡ Some o
 reading_by None h = refl
-reading_by (Some d) h = ap (λ (r : Result DelegationInfo LogonFault). option_map Some (or_nothing r)) (delegation_read d h)
+reading_by (Some d) h = ap (λ (r : Result DelegationInfo LogonFault). option_map Some (result_ok r)) (delegation_read d h)
 
 delegation_told : (t : TicketRec) (holder realm : Key) → IsSound t → delegation_reading (buffer_of 11 (pac (signed_pac t holder realm))) ≡ Some (option_map delegation_of t.delegation)
 delegation_told t holder realm h =

@@ -1,5 +1,6 @@
 -- The record that a part tells of.
-use Rattle.std.specs.Prelude.{ℕ, ◌&&◌, ◌||◌, ◌==◌, ◌^◌, Bool, List, length, nat_lt, Option, None, Some, is_none, is_some, option_map, unwrap_or, Result, Ok, Err, if◌then◌else◌}
+use Rattle.std.specs.Prelude.{ℕ, ◌&&◌, ◌||◌, ◌==◌, ◌^◌, Bool, List, length, nat_lt, Option, None, Some, is_none, is_some, option_map, unwrap_or, if◌then◌else◌}
+use Rattle.std.specs.Result.{result_ok}
 use Rattle.kdc_prelude.specs.Steps.{◌>>=◌}
 use Rattle.kdc_prelude.specs.Texts.{same_text}
 use Rattle.krb_names.specs.Pieces.{is_name}
@@ -24,22 +25,18 @@ use Rattle.ticket_parts.specs.Names.{client_name, filetime}
 
 -- ---- what a PAC says
 
-abbrev pub or_nothing : {X E : Type 0} → Result X E → Option X
-or_nothing (Ok x) = Some x
-or_nothing (Err fault) = None
-
 -- the logon information (type 1)
 abbrev pub logon_in : List ℕ → Option LogonInfo
-logon_in bytes = buffer_of 1 bytes >>= λ content. or_nothing (object logon content)
+logon_in bytes = buffer_of 1 bytes >>= λ content. result_ok (object logon content)
 
 -- the client information (type 10)
 abbrev pub client_in : List ℕ → Option ClientInfo
-client_in bytes = buffer_of 10 bytes >>= λ content. or_nothing (packed client content)
+client_in bytes = buffer_of 10 bytes >>= λ content. result_ok (packed client content)
 
 -- the delegation information, which may be absent; nothing where it is there and does not read
 abbrev pub delegation_reading : Option (List ℕ) → Option (Option DelegationInfo)
 delegation_reading None = Some None
-delegation_reading (Some content) = option_map Some (or_nothing (object delegation content))
+delegation_reading (Some content) = option_map Some (result_ok (object delegation content))
 
 -- what the buffers of types 1, 10 and 11 say
 abbrev pub value_in : List ℕ → Option PacValue
@@ -51,7 +48,7 @@ value_in bytes = do
 
 -- the buffer of this type reads as a signature
 abbrev pub is_signature_in : List ℕ → ℕ → Bool
-is_signature_in bytes kind = is_some (buffer_of kind bytes >>= λ content. or_nothing (front_of signature content))
+is_signature_in bytes kind = is_some (buffer_of kind bytes >>= λ content. result_ok (front_of signature content))
 
 -- the same where there is such a buffer
 abbrev pub is_signature_or_absent : List ℕ → ℕ → Bool

@@ -153,7 +153,7 @@ fn signed_part(alloc: Global, rec: &TicketRec) -> Result<Option<Bytes>, AllocErr
         return Ok(None);
     }
     let zeroed = part_with(alloc, &[0], rec)?;
-    Ok(Some(write_part(alloc, &zeroed)?))
+    Ok(Some(write_part(&zeroed)?))
 }
 
 /// The part of a record: its PAC is signed under the key of its holder and the key of the ticket-granting service of the

@@ -3,8 +3,9 @@
 ghost use Rattle.std.specs.Prelude.{◌≡◌, ◌<◌, ◌≤◌, ◌^◌, true, IfOk, IfSome, None, Result, length};
 ghost use Rattle.std.specs.Option.{option_copied, ForSome};
 ghost use Rattle.kdc_prelude.specs.Answers.{Answers};
+ghost use Rattle.std.specs.Result.{result_ok};
 ghost use Rattle.pac_buffers.specs.Container.{buffer_of, pac_fault};
-ghost use Rattle.ticket_parts.specs.Records.{are_signatures_in, client_in, delegation_reading, has_names, is_signature_in, is_signature_or_absent, logon_in, or_nothing, pac_reading, value_in};
+ghost use Rattle.ticket_parts.specs.Records.{are_signatures_in, client_in, delegation_reading, has_names, is_signature_in, is_signature_or_absent, logon_in, pac_reading, value_in};
 
 use crate::pac_values::PacValue;
 use krb_names::is_name_text;
@@ -15,8 +16,8 @@ use std::alloc::{AllocError, Global};
 
 /// A reading without its fault, where it is not want of memory.
 fn or_nothing<T: Drop>(read: Result<T, LogonFault>) -> Result<Option<T>, AllocError>
-    ensures value { (reading : Result T LogonFault) → Answers LogonFault.NoMemory read reading → IfOk result (λ found. found ≡ or_nothing reading) }
-    ensures found { IfOk result (λ found. found ≡ or_nothing read) }
+    ensures value { (reading : Result T LogonFault) → Answers LogonFault.NoMemory read reading → IfOk result (λ found. found ≡ result_ok reading) }
+    ensures found { IfOk result (λ found. found ≡ result_ok read) }
 {
     match read {
         Ok(value) => Ok(Some(value)),

@@ -1,9 +1,9 @@
 use Rattle.std.proofs.Common.{◌≡◌, drop}
-use Rattle.kdc_prelude.specs.Results.{after}
+use Rattle.kdc_prelude.specs.Results.{with_front}
 use Rattle.serde_json.specs.View.{items_view}
 use Rattle.dir_text.specs.Lists.{each_of}
 use Rattle.dir_text.specs.Values.{number_of}
 use Rattle.dir_text.proofs.lists.numbers_in.Given as goal
 
 abbrev pub invariant-loop-value : goal.invariant-loop-value
-invariant-loop-value l = after l.numbers (each_of (number_of l.place 0 4294967295) (items_view (drop l.value-index l.values))) ≡ each_of (number_of l.place 0 4294967295) (items_view l.values)
+invariant-loop-value l = with_front l.numbers (each_of (number_of l.place 0 4294967295) (items_view (drop l.value-index l.values))) ≡ each_of (number_of l.place 0 4294967295) (items_view l.values)

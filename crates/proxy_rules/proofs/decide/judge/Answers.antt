@@ -1,6 +1,6 @@
 use Rattle.std.proofs.lemmas.Result.{err_from_is_err_and}
 use Rattle.proxy_rules.specs.ProxyRules.{delegation_rules, evidence_rules}
-use Rattle.proxy_rules.proofs.Tables.{fails_first, judged_later}
+use Rattle.kdc_prelude.proofs.Verdicts.{fails_first, judged_later}
 use Rattle.proxy_rules.proofs.decide.judge.Goals as goal
 
 pub returns-in_err-judge_evidence : goal.returns-in_err-judge_evidence

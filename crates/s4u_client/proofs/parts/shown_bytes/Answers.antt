@@ -1,7 +1,6 @@
 use Rattle.std.proofs.Common.{◌<◌, ◌≤◌, ◌+◌, ◌^◌, length, sym, subst, arith}
 use Rattle.krb_messages.specs.declared.ap_req.ApReq.{ApReq}
 use Rattle.krb_messages.specs.ApReq.{ap_req}
-use Rattle.s4u_client.specs.Requests.{shown_with}
 use Rattle.s4u_client.proofs.Forms.{shorter, shown_fits, shown_short}
 use Rattle.s4u_client.proofs.parts.shown_bytes.Goals as goal
 

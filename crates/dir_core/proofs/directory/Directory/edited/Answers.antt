@@ -9,12 +9,12 @@ is_after c = rw c.as_slice.ensures at c.in_ok-realms_after.ensures
 
 pub returns-clause-few : goal.returns-clause-few
 returns-clause-few c =
-    rw (is_after c) (few_realms_after c.args.change.now c.self.inside.contents.realms (well_bounded c.self.inside.contents c.self.invariant))
+    rw (is_after c) (few_realms_after c.args.change.now c.self.inside.contents.realms (well_bounded c.self.inside.contents c.self.invariant.0))
 
 pub returns-clause-accounts : goal.returns-clause-accounts
 returns-clause-accounts c =
-    rw (is_after c) (accounts_bounded_after c.args.change.now c.self.inside.contents.realms (well_bounded c.self.inside.contents c.self.invariant))
+    rw (is_after c) (accounts_bounded_after c.args.change.now c.self.inside.contents.realms (well_bounded c.self.inside.contents c.self.invariant.0))
 
 pub returns-clause-trusts : goal.returns-clause-trusts
 returns-clause-trusts c =
-    rw (is_after c) (trusts_bounded_after c.args.change.now c.self.inside.contents.realms (well_bounded c.self.inside.contents c.self.invariant))
+    rw (is_after c) (trusts_bounded_after c.args.change.now c.self.inside.contents.realms (well_bounded c.self.inside.contents c.self.invariant.0))

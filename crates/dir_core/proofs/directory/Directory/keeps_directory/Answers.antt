@@ -3,4 +3,4 @@ use Rattle.dir_core.proofs.directory.Directory.keeps_directory.Goals as goal
 
 pub returns : goal.returns
 returns c =
-    rw (← c.self.view_is) (record { consistent = is_consistent c.self.inside.contents c.self.invariant; in_range = c.keeps_range.ensures })
+    rw (← c.self.view_is) (record { consistent = is_consistent c.self.inside.contents c.self.invariant.0; in_range = c.keeps_range.ensures })

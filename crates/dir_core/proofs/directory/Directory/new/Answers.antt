@@ -1,7 +1,8 @@
 use Rattle.std.proofs.Common.{◌≡◌, refl, subst}
 use Rattle.kdc_prelude.specs.Answers.{Answers}
+use Rattle.kdc_prelude.specs.Results.{unless_refused}
 use Rattle.dir_records.specs.DirectoryValue.{DirectoryValue}
-use Rattle.dir_records.specs.WellFormed.{first_refusal, no_memory, unchanged, unless_refused}
+use Rattle.dir_records.specs.WellFormed.{first_refusal, no_memory, unchanged}
 use Rattle.dir_core.proofs.directory.Directory.new.Goals as goal
 
 pub returns : goal.returns

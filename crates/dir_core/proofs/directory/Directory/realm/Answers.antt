@@ -19,7 +19,7 @@ bounded c =
     let realm = c.index-as_slice-i.result in
     let realms = c.self.inside.contents.realms in
     let same : get_or realms c.args.i realm ≡ realm = sym (is_read c) in
-    let at_index : IsBounded (get_or realms c.args.i realm) = (well_bounded c.self.inside.contents c.self.invariant).each c.args.i realm (within c) in
+    let at_index : IsBounded (get_or realms c.args.i realm) = (well_bounded c.self.inside.contents c.self.invariant.0).each c.args.i realm (within c) in
     rw same at at_index
 
 pub returns-clause-accounts : goal.returns-clause-accounts
@@ -32,7 +32,7 @@ is_there : (c : goal.After-index-as_slice-i) → slice_get c.self.inside.content
 is_there c = slice_get_read c.self.inside.contents.realms (length c.self.inside.contents.realms) c.args.i c.index-as_slice-i.result refl (within c) (is_read c)
 
 pub returns-clause-forms : goal.returns-clause-forms
-returns-clause-forms c = each IsRealm c.self.inside.contents.realms c.args.i c.index-as_slice-i.result (is_consistent c.self.inside.contents c.self.invariant).forms.realms (is_there c)
+returns-clause-forms c = each IsRealm c.self.inside.contents.realms c.args.i c.index-as_slice-i.result (is_consistent c.self.inside.contents c.self.invariant.0).forms.realms (is_there c)
 
 pub returns-clause-names : goal.returns-clause-names
-returns-clause-names c = apart_names c.self.inside.contents c.self.invariant c.args.i c.index-as_slice-i.result (is_there c)
+returns-clause-names c = apart_names c.self.inside.contents c.self.invariant.0 c.args.i c.index-as_slice-i.result (is_there c)

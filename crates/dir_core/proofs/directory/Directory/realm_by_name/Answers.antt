@@ -1,23 +1,26 @@
-use Rattle.std.proofs.Common.{ℕ, ◌<◌, ◌≤◌, ◌^◌, ap, arith, length}
-use Rattle.std.specs.Prelude.{Option, None, Some, IfSome}
+use Rattle.std.proofs.Common.{◌≡◌, ◌<◌, ◌∙◌, ℕ, ap, length, subst, sym}
+use Rattle.std.specs.Prelude.{IfSome, Option}
 use Rattle.std.proofs.lemmas.Cmp.{nat_list_eq_equiv}
 use Rattle.kdc_prelude.specs.Texts.{same_text}
 use Rattle.dir_records.proofs.Apart.{are_apart}
-use Rattle.dir_records.proofs.Bounds.{well_bounded}
+use Rattle.dir_core.specs.Lookups.{realm_named}
 use Rattle.dir_core.proofs.Once.{at_most_one}
+use Rattle.dir_core.proofs.Places.{position_within}
 use Rattle.dir_core.proofs.directory.Directory.realm_by_name.Goals as goal
+
+is_named : (c : goal.After-find) → c.find.result ≡ realm_named c.args.self.now c.args.name.now
+is_named c = c.find.ensures ∙ c.self.invariant.1.names c.args.name.now ∙ ap (λ d. realm_named d c.args.name.now) c.self.view_is
+
+pub returns-clause-found : goal.returns-clause-found
+returns-clause-found c = is_named c
+
+pub returns-clause-within : goal.returns-clause-within
+returns-clause-within c =
+    let realms = c.args.self.now.realms in
+    subst (λ (o : Option ℕ). IfSome o (λ i. i < length realms)) (sym (is_named c)) (position_within (λ realm. same_text realm.name c.args.name.now) realms)
 
 pub returns-clause-only : goal.returns-clause-only
 returns-clause-only c =
-    let once = at_most_one same_text nat_list_eq_equiv (λ realm. realm.name) c.args.name.now c.self.inside.contents.realms (are_apart c.self.inside.contents c.self.invariant).names in
+    let once = at_most_one same_text nat_list_eq_equiv (λ realm. realm.name) c.args.name.now c.self.inside.contents.realms (are_apart c.self.inside.contents c.self.invariant.0).names in
     let realms = ap (λ d. d.realms) c.self.view_is in
     rw realms at once
-
-narrowed : (found : Option ℕ) (n : ℕ) → IfSome found (λ place. place < n) → n ≤ 64 → IfSome found (λ place. place < 2 ^ 32)
-narrowed None n h few = tt
-narrowed (Some place) n h few = omega arith
-
-pub narrow-requires : goal.narrow-requires
-narrow-requires c =
-    let few : length c.as_slice.result.now ≤ 64 = rw c.as_slice.ensures (well_bounded c.self.inside.contents c.self.invariant).few in
-    narrowed c.place_of_realm.result (length c.as_slice.result.now) c.place_of_realm.ensures.within few
